@@ -1,0 +1,7 @@
+-- The number that a list of bytes spells, the highest byte first, as all fields on the wire do.
+use Rattle.std.specs.Prelude.{ℕ, ◌+◌, ◌*◌, ◌^◌, List, [], ◌∷◌, length}
+
+-- the big-endian number of a list of bytes
+abbrev pub Big : List ℕ → ℕ
+Big [] = 0
+Big (b ∷ bs) = b * 256 ^ length bs + Big bs
