@@ -1,0 +1,5 @@
+pub mod Ports
+pub mod Desks
+pub mod Slots
+pub mod Memory
+pub mod Files
