@@ -36,6 +36,8 @@ mod files;
 mod memory;
 mod ports;
 mod slots;
+#[cfg(test)]
+mod tests;
 
 pub use desks::{Desk, Failed};
 pub use files::FileDesk;

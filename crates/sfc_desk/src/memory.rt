@@ -1,4 +1,5 @@
-ghost use Rattle.std.specs.Prelude.{◌≡◌, ◌≢◌, ℕ, ◌+◌, ◌-◌, ◌^◌, ◌<◌, ◌≤◌, ◌⊎◌, ◌↔◌, ◌&&◌, ◌||◌, not, Bool, true, false, min, List, Some, None, [], ◌∷◌, ◌++◌, take, drop, length, position, is_ok, is_some, nat_lt, slice_get, All, Contains, IsTrue, MatchOption, IfOk, OnOk, OnErr, if◌then◌else◌};
+ghost use Rattle.std.specs.Prelude.{◌≡◌, ◌≢◌, ℕ, ◌+◌, ◌-◌, ◌^◌, ◌<◌, ◌≤◌, ◌⊎◌, ◌↔◌, ◌&&◌, ◌||◌, not, Bool, true, false, min, List, Some, None, [], ◌∷◌, ◌++◌, take, drop, length, position, is_ok, is_some, nat_lt, slice_get, All, ◌==◌, MatchOption, IfOk, OnOk, OnErr, if◌then◌else◌};
+ghost use Rattle.std.specs.List.{list_any};
 ghost use Rattle.sfc_desk.specs.Ports.{is_input, number_of};
 ghost use Rattle.sfc_desk.specs.Desks.{Shown, Files, Rose, Elsewhere, IsAbsent};
 ghost use Rattle.sfc_desk.specs.Slots.{IsFresh, written_of, raised};
@@ -41,7 +42,7 @@ pub struct MemoryDesk {
 
 /// Whether the call of this number is to fail; the next one has the next number.
 fn is_listed(fail: &[u64], calls: &mut u64) -> bool
-    ensures listed { IsTrue result ↔ Contains fail.now calls.old }
+    ensures listed { result ≡ list_any (λ call. call == calls.old) fail.now }
     ensures counted { calls.new ≡ raised calls.old }
 {
     let call = *calls;
@@ -104,6 +105,7 @@ fn read_slot(
     ensures end { IfOk result (λ n. n ≡ 0 → 0 < length into.new → left_of files.now slot.old ≡ []) }
     ensures kept { OnErr result (left_of files.now slot.new ≡ left_of files.now slot.old) }
     ensures cause { OnErr result (min (slot.old.faults + 1) (2 ^ 64 - 1) ≤ slot.new.faults) }
+    ensures faults { slot.new.faults ≡ (if is_ok result then slot.old.faults else raised slot.old.faults) }
     ensures later { slot.old.faults ≤ slot.new.faults }
     ensures bound { slot.new.bound ≡ slot.old.bound }
 {
@@ -193,25 +195,99 @@ impl MemoryDesk {
 }
 
 impl Desk for MemoryDesk {
+    ghost use Rattle.std.specs.Prelude.{◌≡◌, ◌≢◌, ℕ, ◌<◌, ◌≤◌, ◌⊎◌, ◌&&◌, ◌||◌, not, Bool, true, false, min, Some, [], ◌++◌, take, length, is_ok, is_some, nat_lt, slice_get, IfOk, OnOk, OnErr, if◌then◌else◌};
+    ghost use Rattle.sfc_desk.specs.Ports.{is_input};
+    ghost use Rattle.sfc_desk.specs.Desks.{Rose, Elsewhere, IsAbsent};
+    ghost use Rattle.sfc_desk.specs.Slots.{raised};
+    ghost use Rattle.sfc_desk.specs.Memory.{held_in, port_at, bound-report};
+    ghost use Rattle.sfc_desk.specs.Calls.{ports_of, names_of, is_due, calls_of, fail_of, piece_of, free_at};
+
     ghost tells = { true };
 
     ghost held = { λ desk. held_in desk.files };
 
     ghost at = { λ desk. port_at desk.files desk.slots.items };
 
-    fn bind(&mut self, port: Port, name: &str) -> Result<(), Failed> {
+    fn bind(&mut self, port: Port, name: &str) -> Result<(), Failed>
+        requires { port ≢ Port.Report }
+        ensures bound { (ports_of self.new port).bound ≡ is_ok result }
+        ensures input { OnOk result (is_input port ≡ true
+            → names_of self.old name.now ≡ Some ((ports_of self.new port).left)) }
+        ensures output { OnOk result (is_input port ≡ false
+            → (ports_of self.new port).written ≡ []) }
+
+        // An absent name is tried first, and is no fault.
+        ensures absent { IsAbsent true (names_of self.old) port name.now
+            → (is_ok result ≡ false) × ((ports_of self.new port).faults ≡ (ports_of self.old port).faults) }
+        ensures cause { OnErr result (IsAbsent true (names_of self.old) port name.now
+            ⊎ Rose (ports_of self.old port) (ports_of self.new port)) }
+        ensures later { (ports_of self.old port).faults ≤ (ports_of self.new port).faults }
+
+        ensures elsewhere { Elsewhere port (ports_of self.old) (ports_of self.new) }
+        ensures names { names_of self.new ≡ names_of self.old }
+
+        // It fails exactly where the name is absent or the call is listed; only the latter counts.
+        ensures answer { is_ok result ≡ (not (is_input port) || is_some (names_of self.old name.now)) && not (is_due self.old) }
+        ensures counted { calls_of self.new ≡ raised (calls_of self.old) }
+        ensures listed { fail_of self.new ≡ fail_of self.old }
+    {
         let listed = is_listed(self.fail.as_slice(), &mut self.calls);
         let slot = &mut self.slots[port.number()];
         bind_slot(self.files.as_slice(), slot, port, name, listed)
     }
 
-    fn read(&mut self, port: Port, into: &mut [u8]) -> Result<usize, Failed> {
+    fn read(&mut self, port: Port, into: &mut [u8]) -> Result<usize, Failed>
+        requires bound { (ports_of self.old port).bound ≡ true }
+        requires input { is_input port ≡ true }
+        ensures count { IfOk result (λ n. n ≤ length into.new) }
+        ensures bytes { IfOk result (λ n.
+            (ports_of self.old port).left ≡ take n into.new ++ (ports_of self.new port).left) }
+        ensures end { IfOk result (λ n.
+            n ≡ 0 → 0 < length into.new → (ports_of self.old port).left ≡ []) }
+        ensures kept { OnErr result ((ports_of self.new port).left ≡ (ports_of self.old port).left) }
+        ensures still_bound { (ports_of self.new port).bound ≡ true }
+
+        ensures cause { OnErr result (Rose (ports_of self.old port) (ports_of self.new port)) }
+        ensures later { (ports_of self.old port).faults ≤ (ports_of self.new port).faults }
+
+        ensures elsewhere { Elsewhere port (ports_of self.old) (ports_of self.new) }
+        ensures names { names_of self.new ≡ names_of self.old }
+
+        // It fails exactly where the call is listed, and moves all that piece, slice and input allow.
+        ensures answer { is_ok result ≡ not (is_due self.old) }
+        ensures all { IfOk result (λ n. n ≡ min (min (piece_of self.old) (length into.new)) (length (ports_of self.old port).left)) }
+        ensures faults { (ports_of self.new port).faults ≡ (if is_ok result then (ports_of self.old port).faults else raised (ports_of self.old port).faults) }
+        ensures counted { calls_of self.new ≡ raised (calls_of self.old) }
+        ensures listed { fail_of self.new ≡ fail_of self.old }
+    {
         let listed = is_listed(self.fail.as_slice(), &mut self.calls);
         let slot = &mut self.slots[port.number()];
         read_slot(self.files.as_slice(), slot, self.piece, listed, into)
     }
 
-    fn write(&mut self, port: Port, bytes: &[u8]) -> Result<usize, Failed> {
+    fn write(&mut self, port: Port, bytes: &[u8]) -> Result<usize, Failed>
+        requires bound { (ports_of self.old port).bound ≡ true }
+        requires output { is_input port ≡ false }
+        ensures count { IfOk result (λ n. n ≤ length bytes.now) }
+        ensures some { IfOk result (λ n. 0 < length bytes.now → 0 < n) }
+        ensures bytes { IfOk result (λ n.
+            (ports_of self.new port).written ≡ (ports_of self.old port).written ++ take n bytes.now) }
+        ensures kept { OnErr result ((ports_of self.new port).written ≡ (ports_of self.old port).written) }
+        ensures still_bound { (ports_of self.new port).bound ≡ true }
+
+        ensures cause { OnErr result (Rose (ports_of self.old port) (ports_of self.new port)) }
+        ensures later { (ports_of self.old port).faults ≤ (ports_of self.new port).faults }
+
+        ensures elsewhere { Elsewhere port (ports_of self.old) (ports_of self.new) }
+        ensures names { names_of self.new ≡ names_of self.old }
+
+        // It fails exactly where the call is listed or the room is too small, and takes all bytes.
+        ensures answer { is_ok result ≡ not (is_due self.old || nat_lt (free_at self.old port) (length bytes.now)) }
+        ensures all { IfOk result (λ n. n ≡ length bytes.now) }
+        ensures faults { (ports_of self.new port).faults ≡ (if is_ok result then (ports_of self.old port).faults else raised (ports_of self.old port).faults) }
+        ensures counted { calls_of self.new ≡ raised (calls_of self.old) }
+        ensures listed { fail_of self.new ≡ fail_of self.old }
+    {
         let listed = is_listed(self.fail.as_slice(), &mut self.calls);
         self.slots[port.number()].write(bytes, listed)
     }
