@@ -1,0 +1,3 @@
+-- What the table of a static path says, and where walks over it end.
+pub mod StaticLemmas
+pub mod WalkLemmas
