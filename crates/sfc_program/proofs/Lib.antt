@@ -1,3 +1,9 @@
--- What the table of a static path says, and where walks over it end.
 pub mod StaticLemmas
 pub mod WalkLemmas
+pub mod FrontLemmas
+pub mod WordLemmas
+pub mod PacketLemmas
+pub mod PieceLemmas
+pub mod WalkRunLemmas
+pub mod WalkAnswerLemmas
+pub mod SfcCallLemmas

@@ -1,2 +1,9 @@
 pub mod Answers
 pub mod Walks
+pub mod Commands
+pub mod WalkCommand
+pub mod SfcCalls
+pub mod WalkSteps
+pub mod Fronts
+pub mod Pieces
+pub mod Statuses

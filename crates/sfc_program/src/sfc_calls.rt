@@ -1,0 +1,61 @@
+ghost use Rattle.std.specs.Prelude.{◌≡◌, ◌≢◌, ◌↔◌, true};
+ghost use Rattle.sfc_desk.specs.declared.ports.Port.{Port};
+ghost use Rattle.sfc_program.specs.declared.statuses.Status.{Status as Answered};
+ghost use Rattle.sfc_program.specs.Commands.{NoneRose};
+ghost use Rattle.sfc_program.specs.SfcCalls.{Command, Spells, Runs, Wants, RowCall, row_of as row_of_words};
+
+use crate::gates::Gate;
+use crate::statuses::Status;
+use crate::walk_command::walk_call;
+use crate::words::Words;
+use sfc_desk::Desk;
+use std::alloc::Global;
+
+/// The commands, by their first words.
+#[derive(Clone, Copy, Debug, PartialEq, Eq)]
+pub(crate) enum Row {
+    Walk,
+    /// No command has these words.
+    Unknown,
+}
+
+/// The command that the first word names.
+fn row_of(words: &Words) -> Row
+    ensures { result ≡ row_of_words words.now }
+{
+    if words.len() == 0 {
+        return Row::Unknown;
+    }
+    if words.word(0) == "walk" {
+        return Row::Walk;
+    }
+    Row::Unknown
+}
+
+/// Hands the words to the call of their command.
+fn call_row<D: Desk>(alloc: Global, row: Row, words: &Words, desk: &mut D) -> Status
+    ensures { RowCall row words.now D.tells (D.held desk.old) (D.at desk.old) (D.at desk.new) result }
+{
+    match row {
+        Row::Walk => walk_call(alloc, words, desk),
+        Row::Unknown => Status::Words,
+    }
+}
+
+/// All that the program does: the command that the words spell, over the desk.
+pub fn sfc_call<D: Desk, G: Gate>(alloc: Global, words: &Words, desk: &mut D, _gate: &G) -> Status
+    // Words comes exactly where the words spell no command.
+    ensures words { (result ≡ Status.Words) ↔ ((command : Command) → Spells words.now command → ⊥) }
+    // Each answer has its cause, and says what was written.
+    ensures runs { (command : Command) → Spells words.now command
+        → Runs command D.tells (D.held desk.old) (D.at desk.old) (D.at desk.new) result }
+    // At Words no port is touched.
+    ensures untouched { result ≡ Status.Words → (port : Port) → D.at desk.new port ≡ D.at desk.old port }
+    // What the files ask for is the answer, where the desk tells, no call failed and memory was there.
+    ensures exact { (command : Command) (wanted : Answered) → Spells words.now command
+        → Wants command (D.held desk.old) wanted
+        → D.tells ≡ true → NoneRose (D.at desk.old) (D.at desk.new) → result ≢ Status.Memory → result ≡ wanted }
+{
+    let row = row_of(words);
+    call_row(alloc, row, words, desk)
+}

@@ -1,0 +1,153 @@
+ghost use Rattle.std.specs.Prelude.{◌≡◌, ◌+◌, ◌<◌, ◌≤◌, true, false, [], ◌++◌, length, IfOk, OnOk, OnErr, IsErrOf};
+ghost use Rattle.sfc_desk.specs.Ports.{is_input};
+ghost use Rattle.sfc_desk.specs.Desks.{Rose, Elsewhere};
+ghost use Rattle.sfc_program.specs.Fronts.{IsFront};
+
+use crate::reading::PIECE;
+use sfc_desk::{Desk, Failed, Port};
+use std::alloc::AllocError;
+use wire_base::OutOfMemory;
+
+/// Why an output was not written whole.
+#[derive(Clone, Copy, Debug, PartialEq, Eq)]
+pub(crate) enum WriteFault {
+    /// A write failed.
+    File,
+    OutOfMemory,
+}
+
+impl From<AllocError> for WriteFault {
+    ghost use Rattle.std.specs.Prelude.{◌≡◌};
+    ghost use Rattle.sfc_program.specs.declared.writing.WriteFault.TheVariants.{OutOfMemory};
+
+    ghost from_gives = { λ _ e. e ≡ OutOfMemory };
+
+    fn from(_fault: AllocError) -> WriteFault {
+        WriteFault::OutOfMemory
+    }
+}
+
+impl From<OutOfMemory> for WriteFault {
+    ghost use Rattle.std.specs.Prelude.{◌≡◌};
+    ghost use Rattle.sfc_program.specs.declared.writing.WriteFault.TheVariants.{OutOfMemory as NoMemory};
+
+    ghost from_gives = { λ _ e. e ≡ NoMemory };
+
+    fn from(_fault: OutOfMemory) -> WriteFault {
+        WriteFault::OutOfMemory
+    }
+}
+
+impl From<Failed> for WriteFault {
+    ghost use Rattle.std.specs.Prelude.{◌≡◌};
+    ghost use Rattle.sfc_program.specs.declared.writing.WriteFault.TheVariants.{File};
+
+    ghost from_gives = { λ _ e. e ≡ File };
+
+    fn from(_fault: Failed) -> WriteFault {
+        WriteFault::File
+    }
+}
+
+/// Writes all of the bytes.
+fn write_all<D: Desk>(desk: &mut D, port: Port, bytes: &[u8]) -> Result<(), Failed>
+    requires bound { (D.at desk.old port).bound ≡ true }
+    requires output { is_input port ≡ false }
+    ensures ok { D.tells ≡ true → OnOk result
+        ((D.at desk.new port).written ≡ (D.at desk.old port).written ++ bytes.now) }
+    ensures front { D.tells ≡ true →
+        IsFront (D.at desk.new port).written ((D.at desk.old port).written ++ bytes.now) }
+    ensures cause { OnErr result (Rose (D.at desk.old port) (D.at desk.new port)) }
+    ensures later { (D.at desk.old port).faults ≤ (D.at desk.new port).faults }
+    ensures still_bound { (D.at desk.new port).bound ≡ true }
+    ensures elsewhere { Elsewhere port (D.at desk.old) (D.at desk.new) }
+    ensures names { D.held desk.new ≡ D.held desk.old }
+{
+    let mut rest = bytes;
+    'pieces: while !rest.is_empty() {
+        let count = desk.write(port, rest)?;
+        rest = &rest[count..];
+    }
+    Ok(())
+}
+
+/// Writes what the buffer holds, and empties it.
+pub(crate) fn finish<D: Desk>(
+    desk: &mut D,
+    port: Port,
+    buffer: &mut Vec<u8>,
+) -> Result<(), WriteFault>
+    requires bound { (D.at desk.old port).bound ≡ true }
+    requires output { is_input port ≡ false }
+    ensures ok { D.tells ≡ true → OnOk result
+        ((D.at desk.new port).written ≡ (D.at desk.old port).written ++ buffer.old.items) }
+    ensures empty { OnOk result (buffer.new.items ≡ []) }
+    ensures front { D.tells ≡ true →
+        IsFront (D.at desk.new port).written ((D.at desk.old port).written ++ buffer.old.items) }
+    ensures cause { IsErrOf result WriteFault.File → Rose (D.at desk.old port) (D.at desk.new port) }
+    ensures later { (D.at desk.old port).faults ≤ (D.at desk.new port).faults }
+    ensures still_bound { (D.at desk.new port).bound ≡ true }
+    ensures elsewhere { Elsewhere port (D.at desk.old) (D.at desk.new) }
+    ensures names { D.held desk.new ≡ D.held desk.old }
+{
+    write_all(desk, port, buffer)?;
+    buffer.clear();
+    Ok(())
+}
+
+/// Writes what the buffer holds where it is full.
+fn finish_full<D: Desk>(
+    desk: &mut D,
+    port: Port,
+    buffer: &mut Vec<u8>,
+) -> Result<(), WriteFault>
+    requires bound { (D.at desk.old port).bound ≡ true }
+    requires output { is_input port ≡ false }
+    requires small { length buffer.old.items ≤ PIECE }
+    ensures ok { D.tells ≡ true → OnOk result ((D.at desk.new port).written ++ buffer.new.items
+        ≡ (D.at desk.old port).written ++ buffer.old.items) }
+    ensures small { OnOk result (length buffer.new.items < PIECE) }
+    ensures front { D.tells ≡ true →
+        IsFront (D.at desk.new port).written ((D.at desk.old port).written ++ buffer.old.items) }
+    ensures cause { IsErrOf result WriteFault.File → Rose (D.at desk.old port) (D.at desk.new port) }
+    ensures later { (D.at desk.old port).faults ≤ (D.at desk.new port).faults }
+    ensures still_bound { (D.at desk.new port).bound ≡ true }
+    ensures elsewhere { Elsewhere port (D.at desk.old) (D.at desk.new) }
+    ensures names { D.held desk.new ≡ D.held desk.old }
+{
+    if buffer.len() < PIECE {
+        return Ok(());
+    }
+    finish(desk, port, buffer)
+}
+
+/// Appends bytes to what the port took and the buffer holds. The buffer is written when it is full.
+pub(crate) fn put<D: Desk>(
+    desk: &mut D,
+    port: Port,
+    buffer: &mut Vec<u8>,
+    bytes: &[u8],
+) -> Result<(), WriteFault>
+    requires bound { (D.at desk.old port).bound ≡ true }
+    requires output { is_input port ≡ false }
+    requires small { length buffer.old.items < PIECE }
+    ensures ok { D.tells ≡ true → OnOk result ((D.at desk.new port).written ++ buffer.new.items
+        ≡ ((D.at desk.old port).written ++ buffer.old.items) ++ bytes.now) }
+    ensures small { OnOk result (length buffer.new.items < PIECE) }
+    ensures front { D.tells ≡ true →
+        IsFront (D.at desk.new port).written (((D.at desk.old port).written ++ buffer.old.items) ++ bytes.now) }
+    ensures cause { IsErrOf result WriteFault.File → Rose (D.at desk.old port) (D.at desk.new port) }
+    ensures later { (D.at desk.old port).faults ≤ (D.at desk.new port).faults }
+    ensures still_bound { (D.at desk.new port).bound ≡ true }
+    ensures elsewhere { Elsewhere port (D.at desk.old) (D.at desk.new) }
+    ensures names { D.held desk.new ≡ D.held desk.old }
+{
+    let mut rest = bytes;
+    'pieces: while !rest.is_empty() {
+        let count = rest.len().min(PIECE - buffer.len());
+        buffer.extend_from_slice(&rest[..count])?;
+        rest = &rest[count..];
+        finish_full(desk, port, buffer)?;
+    }
+    Ok(())
+}
