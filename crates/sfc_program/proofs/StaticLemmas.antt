@@ -1,12 +1,10 @@
 -- What the table of a static path says of an index, and that it says nothing else.
-use Rattle.std.proofs.Common.{◌≡◌, ◌≢◌, ◌<◌, ◌≤◌, ℕ, zero, suc, ◌+◌, ◌-◌, List, [], ◌∷◌, length, get_or, Option, Some, None, refl, sym, ap, ◌∙◌, arith, subst}
+use Rattle.std.proofs.Common.{◌≡◌, ◌<◌, ◌≤◌, ℕ, zero, suc, ◌+◌, ◌-◌, length, get_or, refl, sym, ap, ◌∙◌, arith, subst}
 use Rattle.std.specs.List.{All, Contains}
-use Rattle.sfc_program.specs.declared.paths.Answer.TheVariants.{NoPath, Ended, NoInstance, At}
+use Rattle.sfc_program.specs.declared.paths.Answer.TheVariants.{Ended, At}
 use Rattle.sfc_program.specs.declared.paths.HopRow.{HopRow}
 use Rattle.sfc_program.specs.declared.paths.Path.{Path}
-use Rattle.wire_base.specs.declared.ids.ForwarderId.{ForwarderId}
-use Rattle.wire_base.specs.declared.ids.InstanceId.{InstanceId}
-use Rattle.sfc_program.specs.Answers.{HasPath, IsAnswer, IsServing, Serves}
+use Rattle.sfc_program.specs.Answers.{HasPath, IsAnswer}
 use Rattle.sfc_program.specs.Walks.{here, static_row, static_rows, static_table}
 
 -- there are as many hops

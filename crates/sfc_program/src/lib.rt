@@ -1,8 +1,10 @@
 //! The commands of sfc.
 #![tactic(auto)]
 
+mod laws;
 mod paths;
 mod walks;
 
+pub use laws::sixty_one_functions_spend_the_ttl;
 pub use paths::{Answer, HopRow, Path};
 pub use walks::{End, Reason, StaticPath, walk_frame};
