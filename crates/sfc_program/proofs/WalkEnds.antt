@@ -39,10 +39,10 @@ pub record IsOwn (count si : ℕ) (row : HopRow) : Type 0 where
   pub same : row ≡ static_row (255 - si)
   pub enough : 256 ≤ si + count
 
-pub serves_own : (spi count asked si : ℕ) (row : HopRow) (path : Path) → si ≤ 255 → count ≤ 255 → HasPath (static_table spi count) asked path → Serves path si row → IsOwn count si row
+pub serves_own : (spi count asked si : ℕ) (row : HopRow) (path : Path) → si ≤ 255 → count ≤ 255 → HasPath (static_table spi count) asked path → Serves path.rows si row → IsOwn count si row
 serves_own spi count asked si row path small few has serves =
     let path_is = only_path spi count path has.there in
-    let on_static : Serves (static_path spi count) si row = subst (λ p. Serves p si row) (sym path_is) serves in
+    let on_static : Serves (static_rows 0 count) si row = subst (λ p. Serves p.rows si row) (sym path_is) serves in
     let hop = row_is_hop count row on_static.there in
     let row_si : row.si ≡ 255 - hop.0 = ap (λ r. r.si) hop.2 in
     let not_above = on_static.not_above in
@@ -148,12 +148,12 @@ last_turn spi count k s Egress some few after (under_way, ended) =
     ])
 
 -- a turn that goes on
-next_turn : (spi count k : ℕ) (s next : Station) → 1 ≤ count → count ≤ 255 → IsAfter spi count k s → Turn (static_table spi count) s (GoesOn next) → IsAfter spi count (suc k) next
-next_turn spi count k s next some few after (under_way, inl (at, other, instance, answer, differs, _)) =
+pub next_turn : (spi count k : ℕ) (s next : Station) → count ≤ 255 → IsAfter spi count k s → Turn (static_table spi count) s (GoesOn next) → IsAfter spi count (suc k) next
+next_turn spi count k s next few after (under_way, inl (at, other, instance, answer, differs, _)) =
     let si = after.si in
     let hop = at_hop spi count s.header.path.spi s.header.path.si at other instance (omega (arith, si)) few answer in
     absurd (differs (hop.forwarder_is ∙ sym after.home))
-next_turn spi count k s next some few after (under_way, inr (at, instance, answer, next_is)) =
+next_turn spi count k s next few after (under_way, inr (at, instance, answer, next_is)) =
     let si = after.si in
     let ttl = after.ttl in
     let alive = after.alive in
@@ -174,11 +174,38 @@ next_turn spi count k s next some few after (under_way, inr (at, instance, answe
       alive = omega (arith, further);
     })
 
+-- a station of the slow walk, from which every walk is one from the first station
+pub record Walking (spi count : ℕ) (frame : List ℕ) (s : Station) : Type 0 where
+  pub turns : ℕ
+  pub after : IsAfter spi count turns s
+  pub whole : (stations : List Station) (end : End) → WalkFrom (static_table spi count) (s ∷ stations) end → WalksTo spi count frame end
+
+pub walking_first : (spi count : ℕ) (frame : List ℕ) → Walking spi count frame (first_station spi frame)
+walking_first spi count frame = record {
+  turns = 0;
+  after = record { home = refl; named = refl; ttl = refl; si = refl; visited = omega arith; alive = omega arith };
+  whole = λ stations end walk. (stations, walk);
+}
+
+pub walking_next : (spi count : ℕ) (frame : List ℕ) (s next : Station) → count ≤ 255 → Walking spi count frame s → Turn (static_table spi count) s (GoesOn next) → Walking spi count frame next
+walking_next spi count frame s next few walking turn = record {
+  turns = suc walking.turns;
+  after = next_turn spi count walking.turns s next few walking.after turn;
+  whole = λ stations end walk. walking.whole (next ∷ stations) end (turn, walk);
+}
+
+-- and its TTL is smaller
+pub walking_falls : (spi count : ℕ) (frame : List ℕ) (s next : Station) → count ≤ 255 → Walking spi count frame s → Turn (static_table spi count) s (GoesOn next) → next.header.base.ttl < s.header.base.ttl
+walking_falls spi count frame s next few walking turn =
+    let before = walking.after.ttl in
+    let after = (next_turn spi count walking.turns s next few walking.after turn).ttl in
+    omega (arith, before, after)
+
 -- every walk from such a station
 walk_ends : (spi count k : ℕ) (s : Station) (others : List Station) (end : End) → 1 ≤ count → count ≤ 255 → IsAfter spi count k s → WalkFrom (static_table spi count) (s ∷ others) end → end ≡ end_of count
 walk_ends spi count k s [] end some few after walk = last_turn spi count k s end some few after walk
 walk_ends spi count k s (next ∷ others) end some few after (turn, walk) =
-    walk_ends spi count (suc k) next others end some few (next_turn spi count k s next some few after turn) walk
+    walk_ends spi count (suc k) next others end some few (next_turn spi count k s next few after turn) walk
 
 -- every walk over a static path
 pub static_end : (spi count : ℕ) (frame : List ℕ) (end : End) → 1 ≤ count → count ≤ 255 → WalksTo spi count frame end → end ≡ end_of count
