@@ -1,9 +1,10 @@
 pub mod StaticLemmas
 pub mod WalkLemmas
-pub mod FrontLemmas
+pub mod WalkEnds
 pub mod WordLemmas
-pub mod PacketLemmas
+pub mod FrontLemmas
 pub mod PieceLemmas
+pub mod PacketLemmas
 pub mod WalkRunLemmas
 pub mod WalkAnswerLemmas
 pub mod SfcCallLemmas

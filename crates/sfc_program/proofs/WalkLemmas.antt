@@ -1,6 +1,5 @@
 -- Where a walk over a static path stands while it is under way.
-use Rattle.std.proofs.Common.{◌≡◌, ◌≢◌, ◌<◌, ◌≤◌, ℕ, zero, suc, ◌+◌, ◌-◌, List, [], ◌∷◌, length, refl, sym, ap, ◌∙◌, arith, subst, inr}
-use Rattle.nsh_headers.specs.declared.heads.NshHead.{NshHead}
+use Rattle.std.proofs.Common.{◌≡◌, ◌≢◌, ℕ, ◌-◌, List, [], ◌∷◌, refl, sym, ap, ◌∙◌, subst, inr}
 use Rattle.nsh_headers.specs.Edit.{lowered, with_si, with_ttl}
 use Rattle.nsh_headers.specs.Head.{IsHead}
 use Rattle.wire_base.specs.declared.ids.ForwarderId.{ForwarderId}
@@ -8,7 +7,7 @@ use Rattle.wire_base.specs.declared.ids.InstanceId.{InstanceId}
 use Rattle.sfc_program.specs.Answers.{IsAnswer}
 use Rattle.sfc_program.specs.declared.paths.Answer.TheVariants.{At}
 use Rattle.sfc_program.specs.declared.walks.End.{End}
-use Rattle.sfc_program.specs.Walks.{EndsAt, GoesOnAt, IsOwnHop, moved, Station, Turn, WalkFrom, WalksTo, first_header, first_station, here, served, static_table}
+use Rattle.sfc_program.specs.Walks.{EndsAt, GoesOnAt, IsOwnHop, moved, Station, WalkFrom, WalksTo, first_header, first_station, here, served, static_table}
 
 -- a station whose header is these bytes, from which every walk is one from the first station
 pub record Stands (spi count : ℕ) (frame header : List ℕ) : Type 0 where

@@ -1,5 +1,5 @@
 -- What a table of service paths says of a service path identifier and a service index.
-use Rattle.std.specs.Prelude.{◌≡◌, ◌≢◌, ◌<◌, ◌≤◌, ℕ, List, Some, None, All, Contains}
+use Rattle.std.specs.Prelude.{◌≡◌, ◌≢◌, ◌<◌, ◌≤◌, ℕ, List, Option, Some, None, All, Contains}
 use Rattle.sfc_program.specs.declared.paths.Answer.{Answer}
 use Rattle.sfc_program.specs.declared.paths.Answer.TheVariants.{NoPath, Ended, NoInstance, At}
 use Rattle.sfc_program.specs.declared.paths.HopRow.{HopRow}
@@ -12,14 +12,14 @@ pub record HasPath (table : List Path) (spi : ℕ) (path : Path) : Type 0 where
 
 -- The hop that serves a service index: of those not above it the one with the greatest (RFC 8300, section 2.3, has the
 -- index point at the next function; that a hop also serves the indexes below it is this project's own).
-pub record Serves (path : Path) (si : ℕ) (row : HopRow) : Type 0 where
-  pub there : Contains path.rows row
+pub record Serves (rows : List HopRow) (si : ℕ) (row : HopRow) : Type 0 where
+  pub there : Contains rows row
   pub not_above : row.si ≤ si
-  pub greatest : All (λ other. other.si ≤ si → other.si ≤ row.si) path.rows
+  pub greatest : All (λ other. other.si ≤ si → other.si ≤ row.si) rows
 
 -- the hop of the table that serves an identifier and an index
 abbrev pub IsServing : List Path → ℕ → ℕ → HopRow → Type 0
-IsServing table spi si row = (path : Path) × HasPath table spi path × Serves path si row
+IsServing table spi si row = (path : Path) × HasPath table spi path × Serves path.rows si row
 
 abbrev pub IsAnswer : List Path → ℕ → ℕ → Answer → Type 0
 -- no path has the identifier
@@ -31,3 +31,8 @@ IsAnswer table spi si (NoInstance at) = (row : HopRow) × IsServing table spi si
 -- the serving hop has this forwarder and this instance
 IsAnswer table spi si (At at forwarder instance) =
     (row : HopRow) × IsServing table spi si row × (row.si ≡ at) × (row.choice ≡ Some (forwarder, instance))
+
+-- a hop serves the index, and has a greater one than the best hop before
+abbrev pub Improves : HopRow → Option HopRow → ℕ → Type 0
+Improves row None si = row.si ≤ si
+Improves row (Some other) si = (row.si ≤ si) × (other.si < row.si)

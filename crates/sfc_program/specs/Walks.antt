@@ -13,6 +13,8 @@ use Rattle.sfc_program.specs.declared.paths.Path.{Path}
 use Rattle.sfc_program.specs.declared.walks.End.{End}
 use Rattle.sfc_program.specs.declared.walks.End.TheVariants.{Egress, Drop}
 use Rattle.sfc_program.specs.declared.walks.Reason.TheVariants.{Ttl, NoPath, NoInstance}
+use Rattle.sfc_program.specs.declared.slow_walks.Next.{Next}
+use Rattle.sfc_program.specs.declared.slow_walks.Next.TheVariants.{Done, Served, Handed}
 use Rattle.sfc_program.specs.Answers.{IsAnswer}
 
 -- where a frame stands: at which forwarder, with which header, and which instances it has visited
@@ -119,3 +121,17 @@ pub record GoesOnAt (spi count : ℕ) (s : Station) (header : List ℕ) : Type 0
 -- the walk ends at s
 abbrev pub EndsAt : ℕ → ℕ → Station → End → Type 0
 EndsAt spi count s end = Turn (static_table spi count) s (Ends end)
+
+-- what a turn of the slow walk says
+abbrev pub LeadsTo : List Path → Station → Next → Type 0
+LeadsTo table s (Done end) = Turn table s (Ends end)
+LeadsTo table s (Served header instance) =
+    Turn table s (GoesOn (record s { header = header; visits = s.visits ++ instance ∷ [] }))
+LeadsTo table s (Handed header forwarder) = Turn table s (GoesOn (record s { forwarder = forwarder; header = header }))
+
+-- a hop at a forwarder: its instance there lowers the index, or the packet is handed to it
+abbrev pub AtHop : NshHead → ForwarderId → ForwarderId → InstanceId → Next → Type 0
+AtHop header forwarder other instance (Done end) = ⊥
+AtHop header forwarder other instance (Served after by) =
+    (other ≡ forwarder) × (by ≡ instance) × (after ≡ with_si header (header.path.si - 1))
+AtHop header forwarder other instance (Handed after to) = (other ≢ forwarder) × (to ≡ other) × (after ≡ header)

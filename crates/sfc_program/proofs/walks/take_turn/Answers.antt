@@ -1,5 +1,5 @@
 -- The hop of the packet's index serves it, so the index is at least 1 and falls by 1.
-use Rattle.std.proofs.Common.{◌≡◌, ◌≤◌, ◌<◌, ◌+◌, ◌-◌, ℕ, ap, refl, sym, ◌∙◌, subst, arith, take, get_or}
+use Rattle.std.proofs.Common.{ap, ◌∙◌, arith, take, get_or}
 use Rattle.std.proofs.lemmas.List.{take_rest}
 use Rattle.wire_base.specs.Numbers.{Big}
 use Rattle.nsh_headers.specs.Edit.{with_ttl}

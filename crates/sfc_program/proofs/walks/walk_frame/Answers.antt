@@ -1,5 +1,5 @@
 -- Each turn goes on from where the walk stands, and the last one ends it.
-use Rattle.std.proofs.Common.{◌≡◌, ◌≤◌, ◌<◌, ◌+◌, ◌-◌, ℕ, ap, refl, sym, ◌∙◌, subst, arith}
+use Rattle.std.proofs.Common.{subst, arith}
 use Rattle.nsh_headers.specs.Head.{IsHead}
 use Rattle.sfc_program.specs.Walks.{first_header}
 use Rattle.sfc_program.proofs.WalkLemmas.{stands_end, stands_first, stands_next}

@@ -1,4 +1,4 @@
-use Rattle.std.proofs.Common.{◌≡◌, ◌<◌, List, length}
+use Rattle.std.proofs.Common.{◌<◌}
 use Rattle.nsh_headers.specs.Edit.{ttl_in}
 use Rattle.sfc_program.proofs.WalkLemmas.{Stands}
 use Rattle.sfc_program.proofs.walks.walk_frame.Given as goal

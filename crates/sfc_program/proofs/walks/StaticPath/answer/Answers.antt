@@ -1,5 +1,5 @@
 -- The hop of an index serves it; below the last hop the path has ended.
-use Rattle.std.proofs.Common.{◌≡◌, ◌≤◌, ◌<◌, ◌+◌, ◌-◌, ℕ, ap, refl, sym, ◌∙◌, subst, arith}
+use Rattle.std.proofs.Common.{◌≡◌, ◌-◌, ap, refl, sym, ◌∙◌, subst, arith}
 use Rattle.wire_base.specs.declared.ids.InstanceId.{InstanceId}
 use Rattle.sfc_program.specs.declared.paths.Answer.TheVariants.{Ended, At}
 use Rattle.sfc_program.specs.Answers.{IsAnswer}
