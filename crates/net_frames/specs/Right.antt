@@ -31,8 +31,13 @@ EndsAt (Tcp place) bytes at transport end = (end ≡ at + word bytes (at + 2)) �
 EndsAt (Udp place) bytes at transport end = (end ≡ transport + word bytes (transport + 4)) × (place + 2 ≤ end) × (word bytes place ≢ 0)
 EndsAt Unchecked bytes at transport end = ⊥
 
--- an IPv4 packet that is no fragment has a TCP or UDP segment that is captured whole, and the segment's words fold to
--- FFFF with those of the pseudo-header: both addresses, the protocol and the segment's length (RFC 9293, section 3.1)
+-- the sum of a segment's words with those of its pseudo-header: both addresses, the protocol and the segment's length
+-- (RFC 9293, section 3.1; RFC 768)
+unfoldable pub segment_sum : List ℕ → ℕ → ℕ → ℕ → ℕ
+segment_sum bytes at transport end =
+    words_sum (slice_range bytes (at + 12) (at + 20)) + slice_index bytes (at + 9) + (end - transport) + words_sum (slice_range bytes transport end)
+
+-- an IPv4 packet that is no fragment has a TCP or UDP segment that is captured whole, and its sum folds to FFFF
 pub record HasRightSegment (bytes : List ℕ) : Type 0 where
   pub at : ℕ
   pub transport : ℕ
@@ -41,5 +46,4 @@ pub record HasRightSegment (bytes : List ℕ) : Type 0 where
   pub unfragmented : word bytes (at + 6) % 16384 ≡ 0
   pub ends : EndsAt (checked_of bytes at transport) bytes at transport end
   pub captured : end ≤ length bytes
-  pub right : IsRight (words_sum (slice_range bytes (at + 12) (at + 20)) + slice_index bytes (at + 9) + (end - transport)
-    + words_sum (slice_range bytes transport end))
+  pub right : IsRight (segment_sum bytes at transport end)

@@ -32,10 +32,12 @@ mod checksums;
 mod contents;
 mod edits;
 mod frames;
+mod laws;
 mod layouts;
 mod words;
 
 pub use contents::{Fields, Side};
+pub use laws::a_fold_adds_the_carries;
 pub use frames::{
     Frame, lower_hop_limit, pop_vlan, push_vlan, set_dscp, set_ipv4_address,
 };

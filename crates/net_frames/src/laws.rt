@@ -1,0 +1,33 @@
+ghost use Rattle.std.specs.Prelude.{◌≡◌, ℕ, List, false, ◌+◌, ◌/◌, ◌%◌, ◌<◌};
+ghost use Rattle.net_frames.specs.Words.{AreBytes, word};
+ghost use Rattle.net_frames.specs.Checksums.{fold};
+ghost use Rattle.net_frames.specs.Layouts.{network_of, checked_of};
+ghost use Rattle.net_frames.specs.declared.layouts.Network.TheVariants.{Ipv4};
+ghost use Rattle.net_frames.specs.declared.layouts.Checked.TheVariants.{Udp};
+ghost use Rattle.net_frames.specs.Edits.{marked, readdressed, lowered, expires};
+ghost use Rattle.net_frames.specs.declared.contents.Side.{Side};
+ghost use Rattle.net_frames.specs.Right.{HasRightHeader, HasRightSegment};
+
+/// A fold is what is left once the carries are added in: it leaves a sum without carries, and is
+/// the same before and after they are added.
+pub fn a_fold_adds_the_carries()
+    ensures small { (n : ℕ) → n < 65536 → fold n ≡ n }
+    ensures carried { (n : ℕ) → fold (n % 65536 + n / 65536) ≡ fold n }
+{}
+
+/// An IPv4 header whose checksum is right has a right one after each edit.
+pub fn header_stays_right()
+    ensures marked { (bytes : List ℕ) (dscp : ℕ) → AreBytes bytes → dscp < 64 → HasRightHeader bytes → HasRightHeader (marked bytes dscp) }
+    ensures readdressed { (bytes : List ℕ) (side : Side) (to : List ℕ) → AreBytes bytes → AreBytes to → HasRightHeader bytes → HasRightHeader (readdressed bytes side to) }
+    ensures lowered { (bytes : List ℕ) → AreBytes bytes → HasRightHeader bytes → HasRightHeader (lowered bytes) }
+{}
+
+/// A TCP or UDP segment of IPv4 whose checksum is right has a right one after each edit, where it is
+/// captured whole and the packet is no fragment. A UDP checksum of 0, which says that there is none,
+/// stays 0 in any frame.
+pub fn segment_stays_right()
+    ensures marked { (bytes : List ℕ) (dscp : ℕ) → AreBytes bytes → dscp < 64 → HasRightSegment bytes → HasRightSegment (marked bytes dscp) }
+    ensures readdressed { (bytes : List ℕ) (side : Side) (to : List ℕ) → AreBytes bytes → AreBytes to → HasRightSegment bytes → HasRightSegment (readdressed bytes side to) }
+    ensures lowered { (bytes : List ℕ) → AreBytes bytes → expires bytes ≡ false → HasRightSegment bytes → HasRightSegment (lowered bytes) }
+    ensures unused { (bytes : List ℕ) (side : Side) (to : List ℕ) (at transport place : ℕ) → network_of bytes ≡ Ipv4 at transport → checked_of bytes at transport ≡ Udp place → word bytes place ≡ 0 → word (readdressed bytes side to) place ≡ 0 }
+{}
