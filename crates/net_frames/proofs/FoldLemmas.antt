@@ -1,5 +1,5 @@
 -- Folding a sum: what it leaves as it is, and that a carry added in changes nothing.
-use Rattle.std.proofs.Common.{◌≡◌, ℕ, zero, suc, ◌+◌, ◌-◌, ◌*◌, ◌/◌, ◌%◌, ◌<◌, ◌≤◌, refl, arith, ◌∙◌, sym}
+use Rattle.std.proofs.Common.{◌≡◌, ℕ, zero, suc, ◌+◌, ◌-◌, ◌/◌, ◌%◌, ◌<◌, refl, arith}
 use Rattle.net_frames.specs.Checksums.{fold}
 
 -- a sum above 0

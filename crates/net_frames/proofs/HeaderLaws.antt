@@ -1,12 +1,12 @@
 -- IPv4's header checksum stays right under each edit.
-use Rattle.std.proofs.Common.{◌≡◌, ℕ, zero, suc, ◌+◌, ◌-◌, ◌*◌, ◌/◌, ◌%◌, ◌<◌, ◌≤◌, ◌⊎◌, inl, inr, ◌==◌, Bool, true, false, cond, List, [], ◌∷◌, length, get_or, take, drop, refl, ap, sym, subst, ◌∙◌, arith}
+use Rattle.std.proofs.Common.{◌≡◌, ℕ, ◌+◌, ◌-◌, ◌*◌, ◌/◌, ◌%◌, ◌<◌, ◌≤◌, ◌⊎◌, inl, inr, Bool, true, false, cond, List, length, drop, refl, ◌∙◌, arith}
 use Rattle.std.proofs.lemmas.List.{get_or-take, get_or-drop}
 use Rattle.std.proofs.lemmas.List.Elements.{All-set}
 use Rattle.std.specs.Prelude.{slice_index, slice_range}
 use Rattle.net_frames.specs.Words.{AreBytes, word, with_word}
 use Rattle.net_frames.specs.Checksums.{adjust, reworded}
 use Rattle.net_frames.specs.Layouts.{network_of, checked_of}
-use Rattle.net_frames.specs.Edits.{marked, marked_in, lowered, lowered_in, readdressed, readdressed_in, address_at, address_in, rechecked}
+use Rattle.net_frames.specs.Edits.{marked, lowered, readdressed, rechecked}
 use Rattle.net_frames.specs.Right.{IsRight, words_sum, HasRightHeader}
 use Rattle.net_frames.specs.declared.contents.Side.{Side}
 use Rattle.net_frames.specs.declared.contents.Side.TheVariants.{Source, Destination}
@@ -16,7 +16,7 @@ use Rattle.net_frames.specs.declared.layouts.Checked.TheVariants.{Tcp, Udp, Unch
 use Rattle.net_frames.specs.declared.layouts.Network.TheVariants.{Ipv4}
 use Rattle.net_frames.proofs.WordLemmas.{length-with_word, byte_elsewhere, byte_high, word_elsewhere, word_below, word_high}
 use Rattle.net_frames.proofs.SumLemmas.{IsEven, range_before, sum_written, words_above}
-use Rattle.net_frames.proofs.LayoutLemmas.{IsFound, found_header, network_kept, IsChecked, checked_stands}
+use Rattle.net_frames.proofs.LayoutLemmas.{found_header, network_kept, IsChecked, checked_stands}
 use Rattle.net_frames.proofs.RightLemmas.{adjust_below, right_kept}
 
 -- the header at this place is right
@@ -58,15 +58,16 @@ header_reworded bytes at transport i k number was are small there even aside fir
     let inside : at + k + 2 ≤ transport = elim aside [ inl low ↦ omega (arith, header.long) | inr high ↦ omega (arith, header.long) ] in
     let written = sum_written bytes i at k transport number there even inside header.captured in
     let summed = sum_written once (at + 10) at 10 transport (adjust checksum before number) refl tt (omega (arith, header.long))
-      (omega (arith, header.captured, length-with_word bytes i number)) in
+    (omega (arith, header.captured, length-with_word bytes i number)) in
     let found = network_kept bytes at transport i number was.found (omega arith) first in
     let top : slice_index twice at ≡ slice_index once at = byte_elsewhere once (at + 10) (adjust checksum before number) at (omega arith) (omega arith) in
     let above : 0 < words_sum (slice_range twice at transport) =
-      words_above (slice_range twice at transport) (rw (first_of_range twice at transport (omega (arith, header.long)), top, first) (omega (arith, header.version))) in
+    words_above (slice_range twice at transport) (rw (first_of_range twice at transport (omega (arith, header.long)), top, first) (omega (arith, header.version))) in
     record {
       found = network_kept once at transport (at + 10) (adjust checksum before number) found (omega arith) top;
       right = right_kept (words_sum (slice_range bytes at transport)) (words_sum (slice_range twice at transport)) checksum before number
-        (word_below bytes (at + 10) are) (word_below bytes i are) small (omega (arith, written, summed, same)) above was.right }
+          (word_below bytes (at + 10) are) (word_below bytes i are) small (omega (arith, written, summed, same)) above was.right;
+    }
 
 -- a word behind the header
 pub header_before : (bytes : List ℕ) (at transport i number : ℕ) → IsRightAt bytes at transport → transport ≤ i →
@@ -75,8 +76,9 @@ header_before bytes at transport i number was behind =
     let header = found_header bytes at transport was.found in
     record {
       found = network_kept bytes at transport i number was.found (omega (arith, header.long))
-        (byte_elsewhere bytes i number at (omega (arith, header.long)) (omega (arith, header.long)));
-      right = rw (range_before bytes i at transport number (omega (arith, header.long)) behind) was.right }
+          (byte_elsewhere bytes i number at (omega (arith, header.long)) (omega (arith, header.long)));
+      right = rw (range_before bytes i at transport number (omega (arith, header.long)) behind) was.right;
+    }
 
 one_of_two : (none : Bool) (bytes next : List ℕ) (at transport : ℕ) → IsRightAt bytes at transport → IsRightAt next at transport →
     IsRightAt (cond none bytes next) at transport
@@ -99,9 +101,9 @@ header_marked bytes dscp are small was =
     let below : word bytes at < 65536 = word_below bytes at are in
     let header = found_header bytes at was.transport was.found in
     let first : slice_index (with_word bytes at number) at ≡ slice_index bytes at =
-      byte_high bytes at number (omega (arith, header.long, header.captured)) ∙ omega (arith, word_high bytes at are) in
+    byte_high bytes at number (omega (arith, header.long, header.captured)) ∙ omega (arith, word_high bytes at are) in
     let next = header_reworded bytes at was.transport at 0 number (record { found = was.found; right = was.right }) are (omega arith)
-      (omega arith) tt (inl (omega arith)) first in
+    (omega arith) tt (inl (omega arith)) first in
     rw was.found (record { at = at; transport = was.transport; found = next.found; right = next.right })
 
 pub header_lowered : (bytes : List ℕ) → AreBytes bytes → HasRightHeader bytes → HasRightHeader (lowered bytes)
@@ -110,7 +112,7 @@ header_lowered bytes are was =
     let number = word bytes (at + 8) - 256 in
     let below : word bytes (at + 8) < 65536 = word_below bytes (at + 8) are in
     let next = header_reworded bytes at was.transport (at + 8) 8 number (record { found = was.found; right = was.right }) are (omega arith)
-      refl tt (inl (omega arith)) (byte_elsewhere bytes (at + 8) number at (omega arith) (omega arith)) in
+    refl tt (inl (omega arith)) (byte_elsewhere bytes (at + 8) number at (omega arith) (omega arith)) in
     rw was.found (record { at = at; transport = was.transport; found = next.found; right = next.right })
 
 -- an address of the header, k bytes into it
@@ -121,10 +123,10 @@ header_readdressed_at bytes to at transport i k checked before after was are new
     let first = word_below to 0 new in
     let second = word_below to 2 new in
     let once = header_reworded bytes at transport i k (word to 0) was are first there even (inr (low, omega arith))
-      (byte_elsewhere bytes i (word to 0) at (omega arith) (omega arith)) in
+    (byte_elsewhere bytes i (word to 0) at (omega arith) (omega arith)) in
     let bytes1 = reworded bytes (at + 10) i (word to 0) in
     let twice = header_reworded bytes1 at transport (i + 2) (k + 2) (word to 2) once (bytes-reworded bytes (at + 10) i (word to 0) first are) second
-      (omega arith) even2 (inr (omega arith, omega arith)) (byte_elsewhere bytes1 (i + 2) (word to 2) at (omega arith) (omega arith)) in
+    (omega arith) even2 (inr (omega arith, omega arith)) (byte_elsewhere bytes1 (i + 2) (word to 2) at (omega arith) (omega arith)) in
     let last = header_rechecked checked (reworded bytes1 (at + 10) (i + 2) (word to 2)) at transport (length bytes) before after stands twice in
     record { at = at; transport = transport; found = last.found; right = last.right }
 
@@ -132,7 +134,7 @@ pub header_readdressed : (bytes : List ℕ) (side : Side) (to : List ℕ) → Ar
     HasRightHeader (readdressed bytes side to)
 header_readdressed bytes Source to are new was =
     rw was.found (header_readdressed_at bytes to was.at was.transport (was.at + 12) 12 (checked_of bytes was.at was.transport) _ _
-      (record { found = was.found; right = was.right }) are new refl tt tt (omega arith) (omega arith) (checked_stands bytes was.at was.transport))
+    (record { found = was.found; right = was.right }) are new refl tt tt (omega arith) (omega arith) (checked_stands bytes was.at was.transport))
 header_readdressed bytes Destination to are new was =
     rw was.found (header_readdressed_at bytes to was.at was.transport (was.at + 16) 16 (checked_of bytes was.at was.transport) _ _
-      (record { found = was.found; right = was.right }) are new refl tt tt (omega arith) (omega arith) (checked_stands bytes was.at was.transport))
+    (record { found = was.found; right = was.right }) are new refl tt tt (omega arith) (omega arith) (checked_stands bytes was.at was.transport))

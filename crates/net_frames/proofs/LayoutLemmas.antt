@@ -1,10 +1,10 @@
 -- Where the headers stand does not change with bytes behind the first of the network header.
-use Rattle.std.proofs.Common.{◌≡◌, ℕ, ◌+◌, ◌-◌, ◌*◌, ◌/◌, ◌%◌, ◌<◌, ◌≤◌, Bool, true, false, cond, List, length, refl, ap, sym, subst, ◌∙◌, arith}
+use Rattle.std.proofs.Common.{◌≡◌, ℕ, ◌+◌, ◌-◌, ◌*◌, ◌/◌, ◌<◌, ◌≤◌, Bool, true, false, cond, List, length, refl, ◌∙◌, arith}
 use Rattle.std.proofs.lemmas.Bool.Decides.{nat_tests}
+use Rattle.std.proofs.Math.Bool.{and-false}
 use Rattle.std.specs.Prelude.{slice_index}
 use Rattle.net_frames.specs.Words.{word, with_word}
 use Rattle.net_frames.specs.Layouts.{is_tag, tags, network_at, header_length, is_ipv4, is_ipv6, network_of, is_first, checked_of}
-use Rattle.net_frames.specs.declared.layouts.Network.{Network}
 use Rattle.net_frames.specs.declared.layouts.Network.TheVariants.{Ipv4, Ipv6, Other}
 use Rattle.net_frames.specs.declared.layouts.Checked.{Checked}
 use Rattle.net_frames.specs.declared.layouts.Checked.TheVariants.{Tcp, Udp, Unchecked}
@@ -39,13 +39,14 @@ pub record IsShown (bytes : List ℕ) (at : ℕ) : Type 0 where
   pub captured : at + header_length bytes at ≤ length bytes
 
 -- what the test for an IPv4 header says
-shown_header : (bytes : List ℕ) (at : ℕ) → is_ipv4 bytes at ≡ true → IsShown bytes at
+pub shown_header : (bytes : List ℕ) (at : ℕ) → is_ipv4 bytes at ≡ true → IsShown bytes at
 unfolding is_ipv4
 shown_header bytes at shown = record {
   kind = grind (arith, nat_tests);
   version = grind (arith, nat_tests);
   long = grind (arith, nat_tests);
-  captured = grind (arith, nat_tests) }
+  captured = grind (arith, nat_tests);
+}
 
 pub found_header : (bytes : List ℕ) (at transport : ℕ) → network_of bytes ≡ Ipv4 at transport → IsFound bytes at transport
 unfolding network_of network_at
@@ -62,7 +63,8 @@ found_header bytes at transport found =
       ends = ends;
       long = omega arith;
       captured = omega arith;
-      version = header.version }
+      version = header.version;
+    }
 
 same_tag : (bytes others : List ℕ) (i : ℕ) → length others ≡ length bytes → word others i ≡ word bytes i → is_tag others i ≡ is_tag bytes i
 unfolding is_tag
@@ -74,7 +76,7 @@ counted : (first second first' second' : Bool) → first' ≡ first → (first �
 counted true second first' second' same next = rw (same, next refl) refl
 counted false second first' second' same next = rw same refl
 
-behind_a_tag : (first second : Bool) → first ≡ true → 18 ≤ 14 + 4 * cond first (cond second 2 1) 0
+pub behind_a_tag : (first second : Bool) → first ≡ true → 18 ≤ 14 + 4 * cond first (cond second 2 1) 0
 behind_a_tag true true is = omega arith
 behind_a_tag true false is = omega arith
 behind_a_tag false second is = absurd (cc)
@@ -83,10 +85,10 @@ pub same_network_at : (bytes others : List ℕ) → SameBefore bytes others (net
 unfolding network_at tags
 same_network_at bytes others same =
     let first : is_tag others 12 ≡ is_tag bytes 12 =
-      same_tag bytes others 12 same.count (word_same bytes others 12 (same.each 12 (omega arith)) (same.each 13 (omega arith))) in
+    same_tag bytes others 12 same.count (word_same bytes others 12 (same.each 12 (omega arith)) (same.each 13 (omega arith))) in
     counted (is_tag bytes 12) (is_tag bytes 16) (is_tag others 12) (is_tag others 16) first (λ tagged.
-      let far = behind_a_tag (is_tag bytes 12) (is_tag bytes 16) tagged in
-      same_tag bytes others 16 same.count (word_same bytes others 16 (same.each 16 (omega (arith, far))) (same.each 17 (omega (arith, far)))))
+    let far = behind_a_tag (is_tag bytes 12) (is_tag bytes 16) tagged in
+    same_tag bytes others 16 same.count (word_same bytes others 16 (same.each 16 (omega (arith, far))) (same.each 17 (omega (arith, far)))))
 
 pub same_network : (bytes others : List ℕ) (at transport : ℕ) → network_of bytes ≡ Ipv4 at transport → SameBefore bytes others at →
     slice_index others at ≡ slice_index bytes at → network_of others ≡ Ipv4 at transport
@@ -94,9 +96,9 @@ unfolding network_of is_ipv4 header_length
 same_network bytes others at transport found same first =
     let header = found_header bytes at transport found in
     let there : network_at others ≡ at =
-      same_network_at bytes others (record { count = same.count; each = λ k low. same.each k (omega (arith, header.begins)) }) ∙ header.begins in
+    same_network_at bytes others (record { count = same.count; each = λ k low. same.each k (omega (arith, header.begins)) }) ∙ header.begins in
     let kind : word others (at - 2) ≡ word bytes (at - 2) =
-      word_same bytes others (at - 2) (same.each (at - 2) (omega (arith, header.low))) (same.each (at - 2 + 1) (omega (arith, header.low))) in
+    word_same bytes others (at - 2) (same.each (at - 2) (omega (arith, header.low))) (same.each (at - 2 + 1) (omega (arith, header.low))) in
     rw (there, kind, first, same.count, header.shown, header.ends) refl
 
 -- a word written at the network header or behind it, where the header's first byte stays
@@ -104,7 +106,7 @@ pub network_kept : (bytes : List ℕ) (at transport i number : ℕ) → network_
     slice_index (with_word bytes i number) at ≡ slice_index bytes at → network_of (with_word bytes i number) ≡ Ipv4 at transport
 network_kept bytes at transport i number found behind first =
     same_network bytes (with_word bytes i number) at transport found
-      (record { count = length-with_word bytes i number; each = λ k before. byte_elsewhere bytes i number k (omega arith) (omega arith) }) first
+    (record { count = length-with_word bytes i number; each = λ k before. byte_elsewhere bytes i number k (omega arith) (omega arith) }) first
 
 -- where a transport checksum is found, it stands in the transport header
 abbrev pub IsChecked : Checked → ℕ → ℕ → Type 0
@@ -129,3 +131,8 @@ pub same_checked : (bytes others : List ℕ) (at transport : ℕ) → length oth
     checked_of others at transport ≡ checked_of bytes at transport
 unfolding checked_of is_first
 same_checked bytes others at transport count fragment protocol = rw (count, fragment, protocol) refl
+
+-- a type that is no tag's
+pub not_tag : (bytes : List ℕ) (i : ℕ) → word bytes i ≡ 2048 → is_tag bytes i ≡ false
+unfolding is_tag
+not_tag bytes i kind = rw (kind, and-false) refl

@@ -6,3 +6,5 @@ pub mod LayoutLemmas
 pub mod RightLemmas
 pub mod HeaderLaws
 pub mod SegmentLaws
+pub mod MoveLemmas
+pub mod TagLaws

@@ -1,5 +1,5 @@
 -- Sums that fold to FFFF, and a checksum that is adjusted for one word.
-use Rattle.std.proofs.Common.{◌≡◌, ℕ, zero, suc, ◌+◌, ◌-◌, ◌*◌, ◌/◌, ◌%◌, ◌<◌, ◌≤◌, refl, ap, sym, ◌∙◌, arith}
+use Rattle.std.proofs.Common.{◌≡◌, ℕ, zero, suc, ◌+◌, ◌-◌, ◌*◌, ◌/◌, ◌<◌, ◌≤◌, refl, arith}
 use Rattle.net_frames.specs.Checksums.{fold, adjust}
 use Rattle.net_frames.specs.Right.{IsRight}
 use Rattle.net_frames.proofs.FoldLemmas.{fold_above}

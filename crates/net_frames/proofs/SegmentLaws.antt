@@ -1,11 +1,11 @@
 -- The checksum of a TCP or UDP segment stays right under each edit.
-use Rattle.std.proofs.Common.{◌≡◌, ◌≢◌, ℕ, zero, suc, ◌+◌, ◌-◌, ◌*◌, ◌/◌, ◌%◌, ◌<◌, ◌≤◌, ◌⊎◌, inl, inr, ◌==◌, Bool, true, false, cond, List, [], ◌∷◌, length, get_or, take, drop, refl, ap, sym, subst, ◌∙◌, arith}
+use Rattle.std.proofs.Common.{◌≡◌, ◌≢◌, ℕ, zero, suc, ◌+◌, ◌-◌, ◌*◌, ◌/◌, ◌%◌, ◌<◌, ◌≤◌, ◌⊎◌, inl, inr, ◌==◌, true, false, cond, List, length, refl, ap, sym, ◌∙◌, arith}
 use Rattle.std.proofs.lemmas.Bool.Decides.{nat_tests}
 use Rattle.std.specs.Prelude.{slice_index, slice_range, nat_le}
 use Rattle.net_frames.specs.Words.{AreBytes, word, with_word}
 use Rattle.net_frames.specs.Checksums.{adjust, reworded}
 use Rattle.net_frames.specs.Layouts.{network_of, checked_of}
-use Rattle.net_frames.specs.Edits.{marked, lowered, expires, readdressed, address_at, address_in, adjust_address, nonzero, rechecked}
+use Rattle.net_frames.specs.Edits.{marked, lowered, expires, readdressed, address_in, nonzero, rechecked}
 use Rattle.net_frames.specs.Right.{IsRight, words_sum, EndsAt, segment_sum, HasRightSegment}
 use Rattle.net_frames.specs.declared.contents.Side.{Side}
 use Rattle.net_frames.specs.declared.contents.Side.TheVariants.{Source, Destination}
@@ -15,8 +15,8 @@ use Rattle.net_frames.specs.declared.layouts.Checked.TheVariants.{Tcp, Udp, Unch
 use Rattle.net_frames.specs.declared.layouts.Network.TheVariants.{Ipv4}
 use Rattle.net_frames.proofs.WordLemmas.{length-with_word, byte_elsewhere, byte_high, byte_low, word_elsewhere, word_written, word_below, word_high, word_low}
 use Rattle.net_frames.proofs.SumLemmas.{IsEven, range_before, range_behind, sum_written}
-use Rattle.net_frames.proofs.LayoutLemmas.{IsFound, found_header, network_kept, IsChecked, checked_stands, same_checked}
-use Rattle.net_frames.proofs.RightLemmas.{adjust_below, right_kept_twice}
+use Rattle.net_frames.proofs.LayoutLemmas.{found_header, network_kept, IsChecked, checked_stands, same_checked}
+use Rattle.net_frames.proofs.RightLemmas.{right_kept_twice}
 
 -- the segment at this place is right
 pub record IsRightSegment (bytes : List ℕ) (at transport end : ℕ) : Type 0 where
@@ -52,13 +52,14 @@ segment_kept : (bytes others : List ℕ) (at transport end : ℕ) → IsRightSeg
     IsUsed (checked_of bytes at transport) others → IsRight (segment_sum others at transport end) → IsRightSegment others at transport end
 segment_kept bytes others at transport end was same used right =
     let checked : checked_of others at transport ≡ checked_of bytes at transport =
-      same_checked bytes others at transport same.count same.fragment same.protocol in
+    same_checked bytes others at transport same.count same.fragment same.protocol in
     record {
       found = same.found;
       unfragmented = rw same.fragment was.unfragmented;
       ends = rw checked (ends_kept (checked_of bytes at transport) bytes others at transport end same used was.ends);
       captured = rw same.count was.captured;
-      right = right }
+      right = right;
+    }
 
 -- the checksum in use is the same word in other bytes
 still_used : (checked : Checked) (bytes others : List ℕ) (at transport end count : ℕ) → IsChecked checked transport count →
@@ -80,17 +81,18 @@ segment_past bytes at transport end i number was place before first protocol =
     let total : (at + 2 + 2 ≤ i) ⊎ (i + 2 ≤ at + 2) = elim place [ inl is ↦ inr (omega arith) | inr far ↦ inl (omega arith) ] in
     let fragment : (at + 6 + 2 ≤ i) ⊎ (i + 2 ≤ at + 6) = elim place [ inl is ↦ inr (omega arith) | inr far ↦ inl (omega arith) ] in
     let behind : (j : ℕ) → transport ≤ j → word next j ≡ word bytes j =
-      λ j far. word_elsewhere bytes i number j (inr (omega (arith, header.long))) in
+    λ j far. word_elsewhere bytes i number j (inr (omega (arith, header.long))) in
     let same : SameSegment bytes next at transport = record {
       count = length-with_word bytes i number;
       found = network_kept bytes at transport i number was.found above first;
       total = word_elsewhere bytes i number (at + 2) total;
       fragment = word_elsewhere bytes i number (at + 6) fragment;
       protocol = protocol;
-      own = behind (transport + 4) (omega arith) } in
+      own = behind (transport + 4) (omega arith);
+    } in
     segment_kept bytes next at transport end was same
-      (still_used (checked_of bytes at transport) bytes next at transport end (length bytes) (checked_stands bytes at transport) behind was.ends)
-      (rw (range_behind bytes i (at + 12) (at + 20) number before, range_behind bytes i transport end number (omega (arith, header.long)), protocol) was.right)
+    (still_used (checked_of bytes at transport) bytes next at transport end (length bytes) (checked_stands bytes at transport) behind was.ends)
+    (rw (range_behind bytes i (at + 12) (at + 20) number before, range_behind bytes i transport end number (omega (arith, header.long)), protocol) was.right)
 
 -- the same with the header checksum adjusted
 segment_reworded : (bytes : List ℕ) (at transport end i number : ℕ) → IsRightSegment bytes at transport end →
@@ -104,8 +106,8 @@ segment_reworded bytes at transport end i number was place first protocol =
     let far : (i ≡ at) ⊎ (at + 8 ≤ i) = elim place [ inl is ↦ inl is | inr is ↦ inr (omega arith) ] in
     let before : i + 2 ≤ at + 12 = elim place [ inl is ↦ omega arith | inr is ↦ omega arith ] in
     segment_past once at transport end (at + 10) checksum (segment_past bytes at transport end i number was far before first protocol)
-      (inr (omega arith)) (omega arith) (byte_elsewhere once (at + 10) checksum at (omega arith) (omega arith))
-      (byte_elsewhere once (at + 10) checksum (at + 9) (omega arith) (omega arith))
+    (inr (omega arith)) (omega arith) (byte_elsewhere once (at + 10) checksum at (omega arith) (omega arith))
+    (byte_elsewhere once (at + 10) checksum (at + 9) (omega arith) (omega arith))
 
 segment_of : (bytes : List ℕ) (at transport end : ℕ) → IsRightSegment bytes at transport end → HasRightSegment bytes
 segment_of bytes at transport end is = record {
@@ -116,7 +118,8 @@ segment_of bytes at transport end is = record {
   unfragmented = is.unfragmented;
   ends = is.ends;
   captured = is.captured;
-  right = is.right }
+  right = is.right;
+}
 
 placed : (bytes : List ℕ) (has : HasRightSegment bytes) → IsRightSegment bytes has.at has.transport has.end
 placed bytes has = record { found = has.found; unfragmented = has.unfragmented; ends = has.ends; captured = has.captured; right = has.right }
@@ -127,9 +130,9 @@ segment_marked bytes dscp are small was =
     let number = word bytes at / 256 * 256 + 4 * dscp + word bytes at % 4 in
     let header = found_header bytes at was.transport was.found in
     let first : slice_index (with_word bytes at number) at ≡ slice_index bytes at =
-      byte_high bytes at number (omega (arith, header.long, header.captured)) ∙ omega (arith, word_high bytes at are) in
+    byte_high bytes at number (omega (arith, header.long, header.captured)) ∙ omega (arith, word_high bytes at are) in
     let next = segment_reworded bytes at was.transport was.end at number (placed bytes was) (inl refl) first
-      (byte_elsewhere bytes at number (at + 9) (omega arith) (omega arith)) in
+    (byte_elsewhere bytes at number (at + 9) (omega arith) (omega arith)) in
     rw was.found (segment_of (reworded bytes (at + 10) at number) at was.transport was.end next)
 
 pub segment_lowered : (bytes : List ℕ) → AreBytes bytes → expires bytes ≡ false → HasRightSegment bytes → HasRightSegment (lowered bytes)
@@ -141,9 +144,9 @@ segment_lowered bytes are alive was =
     let hops : 1 < slice_index bytes (at + 8) = grind (arith, nat_tests) in
     let next_to : at + 8 + 1 ≡ at + 9 = omega arith in
     let protocol : slice_index (with_word bytes (at + 8) number) (at + 8 + 1) ≡ slice_index bytes (at + 8 + 1) =
-      byte_low bytes (at + 8) number (omega (arith, header.long, header.captured)) ∙ omega (arith, word_low bytes (at + 8) are, word_high bytes (at + 8) are) in
+    byte_low bytes (at + 8) number (omega (arith, header.long, header.captured)) ∙ omega (arith, word_low bytes (at + 8) are, word_high bytes (at + 8) are) in
     let next = segment_reworded bytes at was.transport was.end (at + 8) number (placed bytes was) (inr refl)
-      (byte_elsewhere bytes (at + 8) number at (omega arith) (omega arith)) (rw next_to at protocol) in
+    (byte_elsewhere bytes (at + 8) number at (omega arith) (omega arith)) (rw next_to at protocol) in
     rw was.found (segment_of (reworded bytes (at + 10) (at + 8) number) at was.transport was.end next)
 
 -- one word of an address exchanged, with the header checksum: what moves and what stays
@@ -164,10 +167,11 @@ exchanged bytes at transport end i k number found there even low =
     let count : length once ≡ length bytes = length-with_word bytes i number in
     let found_once = network_kept bytes at transport i number found (omega arith) (byte_elsewhere bytes i number at (omega arith) (omega arith)) in
     let elsewhere : (j : ℕ) → (j + 2 ≤ at + 10) ⊎ (i + 2 ≤ j) → word twice j ≡ word bytes j = λ j aside. elim aside [
-        inl before ↦ word_elsewhere once (at + 10) checksum j (inl before) ∙ word_elsewhere bytes i number j (inl (omega arith))
-      | inr behind ↦ word_elsewhere once (at + 10) checksum j (inr (omega arith)) ∙ word_elsewhere bytes i number j (inr behind) ] in
+      | inl before ↦ word_elsewhere once (at + 10) checksum j (inl before) ∙ word_elsewhere bytes i number j (inl (omega arith))
+      | inr behind ↦ word_elsewhere once (at + 10) checksum j (inr (omega arith)) ∙ word_elsewhere bytes i number j (inr behind)
+    ] in
     let protocol : slice_index twice (at + 9) ≡ slice_index bytes (at + 9) =
-      byte_elsewhere once (at + 10) checksum (at + 9) (omega arith) (omega arith) ∙ byte_elsewhere bytes i number (at + 9) (omega arith) (omega arith) in
+    byte_elsewhere once (at + 10) checksum (at + 9) (omega arith) (omega arith) ∙ byte_elsewhere bytes i number (at + 9) (omega arith) (omega arith) in
     record {
       same = record {
         count = length-with_word once (at + 10) checksum ∙ count;
@@ -175,11 +179,13 @@ exchanged bytes at transport end i k number found there even low =
         total = elsewhere (at + 2) (inl (omega arith));
         fragment = elsewhere (at + 6) (inl (omega arith));
         protocol = protocol;
-        own = elsewhere (transport + 4) (inr (omega (arith, header.long))) };
+        own = elsewhere (transport + 4) (inr (omega (arith, header.long)));
+      };
       moved = rw (range_behind once (at + 10) (at + 12) (at + 20) checksum (omega arith))
-        (sum_written bytes i (at + 12) k (at + 20) number there even (omega arith) (omega (arith, header.long, header.captured)));
+          (sum_written bytes i (at + 12) k (at + 20) number there even (omega arith) (omega (arith, header.long, header.captured)));
       stays = rw (range_behind once (at + 10) transport end checksum (omega (arith, header.long)), range_behind bytes i transport end number (omega (arith, header.long))) refl;
-      words = λ j behind. elsewhere j (inr behind) }
+      words = λ j behind. elsewhere j (inr behind);
+    }
 
 -- FFFF in place of 0 is a multiple of 65,535 more
 nonzero_part : (n : ℕ) → (full : ℕ) × (nonzero n ≡ n + 65535 * full) × (0 < nonzero n)
@@ -200,20 +206,20 @@ sum_exchanged bytes middle others at transport end i place k first second checks
     let between : word middle (i + 2) ≡ word bytes (i + 2) = one.words (i + 2) (omega arith) in
     let old : word others place ≡ word bytes place = two.words place (omega arith) ∙ one.words place (omega arith) in
     let addresses : slice_range last (at + 12) (at + 20) ≡ slice_range others (at + 12) (at + 20) =
-      range_before others place (at + 12) (at + 20) checksum (omega arith) (omega (arith, header.long)) in
+    range_before others place (at + 12) (at + 20) checksum (omega arith) (omega (arith, header.long)) in
     let protocol : slice_index last (at + 9) ≡ slice_index bytes (at + 9) =
-      byte_elsewhere others place checksum (at + 9) (omega (arith, header.long)) (omega (arith, header.long)) ∙ two.same.protocol ∙ one.same.protocol in
+    byte_elsewhere others place checksum (at + 9) (omega (arith, header.long)) (omega (arith, header.long)) ∙ two.same.protocol ∙ one.same.protocol in
     let segment : words_sum (slice_range last transport end) + word others place ≡ words_sum (slice_range others transport end) + checksum =
-      sum_written others place transport k end checksum there even (omega arith) (omega (arith, was.captured, one.same.count, two.same.count)) in
+    sum_written others place transport k end checksum there even (omega arith) (omega (arith, was.captured, one.same.count, two.same.count)) in
     let stays : slice_range others transport end ≡ slice_range bytes transport end = two.stays ∙ one.stays in
     let stay : words_sum (slice_range others transport end) ≡ words_sum (slice_range bytes transport end) = ap words_sum stays in
     let swept : words_sum (slice_range last (at + 12) (at + 20)) ≡ words_sum (slice_range others (at + 12) (at + 20)) = ap words_sum addresses in
     right_kept_twice
-      (words_sum (slice_range bytes (at + 12) (at + 20)) + slice_index bytes (at + 9) + (end - transport) + words_sum (slice_range bytes transport end))
-      (words_sum (slice_range last (at + 12) (at + 20)) + slice_index last (at + 9) + (end - transport) + words_sum (slice_range last transport end))
-      (word bytes place) (word bytes i) first (word bytes (i + 2)) second full
-      (word_below bytes place are) (word_below bytes i are) small1 (word_below bytes (i + 2) are) small2
-      (omega (arith, swept, segment, stay, protocol, old, between, one.moved, two.moved, is)) (omega arith) was.right
+    (words_sum (slice_range bytes (at + 12) (at + 20)) + slice_index bytes (at + 9) + (end - transport) + words_sum (slice_range bytes transport end))
+    (words_sum (slice_range last (at + 12) (at + 20)) + slice_index last (at + 9) + (end - transport) + words_sum (slice_range last transport end))
+    (word bytes place) (word bytes i) first (word bytes (i + 2)) second full
+    (word_below bytes place are) (word_below bytes i are) small1 (word_below bytes (i + 2) are) small2
+    (omega (arith, swept, segment, stay, protocol, old, between, one.moved, two.moved, is)) (omega arith) was.right
 
 -- what the other bytes say once the transport checksum is written as well
 same_rechecked : (bytes middle others : List ℕ) (at transport end i first second place checksum : ℕ) → network_of bytes ≡ Ipv4 at transport →
@@ -224,12 +230,13 @@ same_rechecked bytes middle others at transport end i first second place checksu
     record {
       count = length-with_word others place checksum ∙ two.same.count ∙ one.same.count;
       found = network_kept others at transport place checksum two.same.found (omega (arith, header.long))
-        (byte_elsewhere others place checksum at (omega (arith, header.long)) (omega (arith, header.long)));
+          (byte_elsewhere others place checksum at (omega (arith, header.long)) (omega (arith, header.long)));
       total = word_elsewhere others place checksum (at + 2) (inl (omega (arith, header.long))) ∙ two.same.total ∙ one.same.total;
       fragment = word_elsewhere others place checksum (at + 6) (inl (omega (arith, header.long))) ∙ two.same.fragment ∙ one.same.fragment;
       protocol = byte_elsewhere others place checksum (at + 9) (omega (arith, header.long)) (omega (arith, header.long))
-        ∙ two.same.protocol ∙ one.same.protocol;
-      own = word_elsewhere others place checksum (transport + 4) (inl (omega arith)) ∙ two.same.own ∙ one.same.own }
+          ∙ two.same.protocol ∙ one.same.protocol;
+      own = word_elsewhere others place checksum (transport + 4) (inl (omega arith)) ∙ two.same.own ∙ one.same.own;
+    }
 
 -- what is known of an address that is exchanged
 record Exchange (bytes middle others : List ℕ) (at transport end i first second : ℕ) : Type 0 where
@@ -254,12 +261,12 @@ exchanged_tcp bytes middle others at transport end i first second place all chec
     let checksum = adjust (adjust (word others place) (word bytes i) first) (word bytes (i + 2)) second in
     let same : word others place ≡ word bytes place = words_behind bytes middle others at transport end i first second all place (omega arith) in
     let is : checksum ≡ adjust (adjust (word bytes place) (word bytes i) first) (word bytes (i + 2)) second + 65535 * 0 =
-      rw same (omega arith) in
+    rw same (omega arith) in
     segment_kept bytes (with_word others place checksum) at transport end all.was
-      (same_rechecked bytes middle others at transport end i first second place checksum all.was.found all.one all.two (omega arith))
-      (rw checked tt)
-      (sum_exchanged bytes middle others at transport end i place 16 first second checksum 0 all.are all.was all.one all.two all.high all.low all.before
-        there tt inside is)
+    (same_rechecked bytes middle others at transport end i first second place checksum all.was.found all.one all.two (omega arith))
+    (rw checked tt)
+    (sum_exchanged bytes middle others at transport end i place 16 first second checksum 0 all.are all.was all.one all.two all.high all.low all.before
+    there tt inside is)
 
 exchanged_udp : (bytes middle others : List ℕ) (at transport end i first second place : ℕ) → Exchange bytes middle others at transport end i first second →
     checked_of bytes at transport ≡ Udp place → place ≡ transport + 6 → place + 2 ≤ end →
@@ -270,16 +277,16 @@ exchanged_udp bytes middle others at transport end i first second place all chec
     let part = nonzero_part sum in
     let sums : sum ≡ adjust (adjust (word bytes place) (word bytes i) first) (word bytes (i + 2)) second = rw same refl in
     let is : nonzero sum ≡ adjust (adjust (word bytes place) (word bytes i) first) (word bytes (i + 2)) second + 65535 * part.0 =
-      part.1 ∙ ap (λ n. n + 65535 * part.0) sums in
+    part.1 ∙ ap (λ n. n + 65535 * part.0) sums in
     let next = with_word others place (nonzero sum) in
     let room : place + 2 ≤ length others = omega (arith, inside, all.was.captured, all.one.same.count, all.two.same.count) in
     let written : word next place ≡ nonzero sum = word_written others place (nonzero sum) room in
     let used : IsUsed (Udp place) next = λ none. omega (arith, written, part.2, none) in
     segment_kept bytes next at transport end all.was
-      (same_rechecked bytes middle others at transport end i first second place (nonzero sum) all.was.found all.one all.two (omega arith))
-      (rw checked used)
-      (sum_exchanged bytes middle others at transport end i place 6 first second (nonzero sum) part.0 all.are all.was all.one all.two all.high all.low all.before
-        there tt inside is)
+    (same_rechecked bytes middle others at transport end i first second place (nonzero sum) all.was.found all.one all.two (omega arith))
+    (rw checked used)
+    (sum_exchanged bytes middle others at transport end i place 6 first second (nonzero sum) part.0 all.are all.was all.one all.two all.high all.low all.before
+    there tt inside is)
 
 -- a UDP checksum that is not 0 is written
 udp_written : (bytes next : List ℕ) (place : ℕ) → word bytes place ≢ 0 → (P : List ℕ → Type 0) → P next →
@@ -299,14 +306,14 @@ segment_rechecked (Tcp place) bytes middle others at transport end i first secon
 segment_rechecked (Udp place) bytes middle others at transport end i first second all checked stands ends =
     let same : word others place ≡ word bytes place = words_behind bytes middle others at transport end i first second all place (omega arith) in
     udp_written others _ place (λ none. ends.2 (sym same ∙ none)) (λ next. IsRightSegment next at transport end)
-      (exchanged_udp bytes middle others at transport end i first second place all checked stands.0 ends.1)
+    (exchanged_udp bytes middle others at transport end i first second place all checked stands.0 ends.1)
 segment_rechecked Unchecked bytes middle others at transport end i first second all checked stands ends = absurd ends
 
 -- an address of the header, k bytes into the addresses
 segment_readdressed_at : (bytes to : List ℕ) (at transport end i k : ℕ) → AreBytes bytes → AreBytes to → IsRightSegment bytes at transport end →
     i ≡ at + 12 + k → IsEven k → IsEven (k + 2) → k + 4 ≤ 8 →
     HasRightSegment (rechecked (checked_of bytes at transport)
-      (reworded (reworded bytes (at + 10) i (word to 0)) (at + 10) (i + 2) (word to 2)) (address_in bytes i) (address_in to 0))
+    (reworded (reworded bytes (at + 10) i (word to 0)) (at + 10) (i + 2) (word to 2)) (address_in bytes i) (address_in to 0))
 segment_readdressed_at bytes to at transport end i k are new was there even even2 low =
     let header = found_header bytes at transport was.found in
     let middle = reworded bytes (at + 10) i (word to 0) in
@@ -314,10 +321,17 @@ segment_readdressed_at bytes to at transport end i k are new was there even even
     let one = exchanged bytes at transport end i k (word to 0) was.found there even (omega arith) in
     let two = exchanged middle at transport end (i + 2) (k + 2) (word to 2) one.same.found (omega arith) even2 (omega arith) in
     let all : Exchange bytes middle others at transport end i (word to 0) (word to 2) = record {
-      are = are; was = was; one = one; two = two; high = word_below to 0 new; low = word_below to 2 new; before = omega (arith, header.long) } in
+      are = are;
+      was = was;
+      one = one;
+      two = two;
+      high = word_below to 0 new;
+      low = word_below to 2 new;
+      before = omega (arith, header.long);
+    } in
     segment_of _ at transport end
-      (segment_rechecked (checked_of bytes at transport) bytes middle others at transport end i (word to 0) (word to 2) all refl
-        (checked_stands bytes at transport) was.ends)
+    (segment_rechecked (checked_of bytes at transport) bytes middle others at transport end i (word to 0) (word to 2) all refl
+    (checked_stands bytes at transport) was.ends)
 
 pub segment_readdressed : (bytes : List ℕ) (side : Side) (to : List ℕ) → AreBytes bytes → AreBytes to → HasRightSegment bytes →
     HasRightSegment (readdressed bytes side to)
@@ -339,7 +353,7 @@ unused_kept bytes middle others at transport i first second place before after f
 unused_at : (bytes to : List ℕ) (at transport i k place : ℕ) → network_of bytes ≡ Ipv4 at transport → i ≡ at + 12 + k → IsEven k → IsEven (k + 2) → k + 4 ≤ 8 →
     checked_of bytes at transport ≡ Udp place → word bytes place ≡ 0 →
     word (rechecked (checked_of bytes at transport)
-      (reworded (reworded bytes (at + 10) i (word to 0)) (at + 10) (i + 2) (word to 2)) (address_in bytes i) (address_in to 0)) place ≡ 0
+    (reworded (reworded bytes (at + 10) i (word to 0)) (at + 10) (i + 2) (word to 2)) (address_in bytes i) (address_in to 0)) place ≡ 0
 unused_at bytes to at transport i k place found there even even2 low checked none =
     let header = found_header bytes at transport found in
     let middle = reworded bytes (at + 10) i (word to 0) in

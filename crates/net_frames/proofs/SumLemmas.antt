@@ -1,5 +1,5 @@
 -- The sum of the words of a part, after one of them is written.
-use Rattle.std.proofs.Common.{◌≡◌, ℕ, zero, suc, ◌+◌, ◌-◌, ◌*◌, ◌/◌, ◌%◌, ◌<◌, ◌≤◌, List, [], ◌∷◌, length, get_or, set, take, drop, refl, ap, sym, subst, ◌∙◌, arith, add-one, add_assoc, length-set, length-take, length-drop}
+use Rattle.std.proofs.Common.{◌≡◌, ℕ, zero, suc, ◌+◌, ◌-◌, ◌*◌, ◌/◌, ◌%◌, ◌<◌, ◌≤◌, List, [], ◌∷◌, length, get_or, set, drop, refl, subst, arith, add-one, length-take, length-drop}
 use Rattle.std.proofs.lemmas.List.{drop-set-add, drop-set-lt, take-set-le, get_or-drop, get_or-take}
 use Rattle.std.proofs.Math.Seq.{take-set-lt}
 use Rattle.std.specs.Prelude.{slice_index, slice_range}
@@ -38,9 +38,13 @@ range-with_word bytes start k end number inside =
     let low : start + k + 1 ≡ start + (k + 1) = omega arith in
     let first : k < end - start = omega arith in
     let second : k + 1 < end - start = omega arith in
-    rw (low, drop-set-add start (set bytes (start + k) (number / 256)) (k + 1) (number % 256), drop-set-add start bytes k (number / 256),
-        take-set-lt (end - start) (set (drop start bytes) k (number / 256)) (k + 1) (number % 256) second,
-        take-set-lt (end - start) (drop start bytes) k (number / 256) first) refl
+    rw (
+      low,
+      drop-set-add start (set bytes (start + k) (number / 256)) (k + 1) (number % 256),
+      drop-set-add start bytes k (number / 256),
+      take-set-lt (end - start) (set (drop start bytes) k (number / 256)) (k + 1) (number % 256) second,
+      take-set-lt (end - start) (drop start bytes) k (number / 256) first,
+    ) refl
 
 -- a part behind the word
 pub range_behind : (bytes : List ℕ) (i start end number : ℕ) → i + 2 ≤ start →
@@ -55,9 +59,13 @@ unfolding with_word
 before_at bytes start k end number before =
     let low : start + k + 1 ≡ start + (k + 1) = omega arith in
     let next : end - start ≤ k + 1 = omega arith in
-    rw (low, drop-set-add start (set bytes (start + k) (number / 256)) (k + 1) (number % 256), drop-set-add start bytes k (number / 256),
-        take-set-le (end - start) (set (drop start bytes) k (number / 256)) (k + 1) (number % 256) next,
-        take-set-le (end - start) (drop start bytes) k (number / 256) before) refl
+    rw (
+      low,
+      drop-set-add start (set bytes (start + k) (number / 256)) (k + 1) (number % 256),
+      drop-set-add start bytes k (number / 256),
+      take-set-le (end - start) (set (drop start bytes) k (number / 256)) (k + 1) (number % 256) next,
+      take-set-le (end - start) (drop start bytes) k (number / 256) before,
+    ) refl
 
 -- a part before the word
 pub range_before : (bytes : List ℕ) (i start end number : ℕ) → start ≤ end → end ≤ i →
@@ -65,15 +73,20 @@ pub range_before : (bytes : List ℕ) (i start end number : ℕ) → start ≤ e
 range_before bytes i start end number falls before =
     let there : start + (i - start) ≡ i = omega arith in
     subst (λ n. slice_range (with_word bytes n number) start end ≡ slice_range bytes start end) there
-      (before_at bytes start (i - start) end number (omega arith))
+    (before_at bytes start (i - start) end number (omega arith))
 
 -- the word k bytes into a part
 pub word-range : (bytes : List ℕ) (start k end : ℕ) → start + k + 2 ≤ end → word (slice_range bytes start end) k ≡ word bytes (start + k)
 unfolding word
 word-range bytes start k end inside =
     let low : start + (k + 1) ≡ start + k + 1 = omega arith in
-    rw (get_or-take (end - start) (drop start bytes) k 0 (omega arith), get_or-take (end - start) (drop start bytes) (k + 1) 0 (omega arith),
-        get_or-drop start bytes k 0, get_or-drop start bytes (k + 1) 0, low) refl
+    rw (
+      get_or-take (end - start) (drop start bytes) k 0 (omega arith),
+      get_or-take (end - start) (drop start bytes) (k + 1) 0 (omega arith),
+      get_or-drop start bytes k 0,
+      get_or-drop start bytes (k + 1) 0,
+      low,
+    ) refl
 
 -- the sum of a part, with a word written an even number of bytes into it
 pub sum_written : (bytes : List ℕ) (i start k end number : ℕ) → i ≡ start + k → IsEven k → start + k + 2 ≤ end → end ≤ length bytes →
@@ -81,7 +94,7 @@ pub sum_written : (bytes : List ℕ) (i start k end number : ℕ) → i ≡ star
 sum_written bytes i start k end number there even inside captured =
     let long : length (slice_range bytes start end) ≡ end - start = omega (arith, length-take (end - start) (drop start bytes), length-drop start bytes) in
     rw (there, range-with_word bytes start k end number inside, ← word-range bytes start k end inside)
-      (words_sum-with_word (slice_range bytes start end) k number even (omega arith))
+    (words_sum-with_word (slice_range bytes start end) k number even (omega arith))
 
 -- words of which the first byte is above 0
 pub words_above : (bytes : List ℕ) → 0 < slice_index bytes 0 → 0 < words_sum bytes

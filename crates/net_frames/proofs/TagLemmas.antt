@@ -29,5 +29,5 @@ tag_in_room bytes tag enough =
     let more : List ℕ = 0 ∷ 0 ∷ 0 ∷ 0 ∷ [] in
     let count : length (bytes ++ more) - 4 - 12 ≡ length (drop 12 bytes) = omega (arith, length-append bytes more, length-drop 12 bytes) in
     let back : take (length (bytes ++ more) - 4 - 12) (drop 12 (bytes ++ more)) ≡ drop 12 bytes =
-      rw (count, drop-append-le 12 bytes more enough) (take-append_seam (drop 12 bytes) more) in
+    rw (count, drop-append-le 12 bytes more enough) (take-append_seam (drop 12 bytes) more) in
     rw (take-append-le 12 bytes more enough, back) refl

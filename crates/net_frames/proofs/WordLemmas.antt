@@ -1,5 +1,5 @@
 -- What a word written in place changes, and what it leaves.
-use Rattle.std.proofs.Common.{◌≡◌, ◌≢◌, ℕ, zero, suc, ◌+◌, ◌*◌, ◌/◌, ◌%◌, ◌<◌, ◌≤◌, ◌⊎◌, inl, inr, List, [], ◌∷◌, length, get_or, set, refl, ap, sym, ◌∙◌, arith, length-set}
+use Rattle.std.proofs.Common.{◌≡◌, ◌≢◌, ℕ, zero, suc, ◌+◌, ◌/◌, ◌%◌, ◌<◌, ◌≤◌, ◌⊎◌, inl, inr, List, [], ◌∷◌, length, set, refl, ◌∙◌, arith, length-set}
 use Rattle.std.proofs.lemmas.List.{get_or-set_same, get_or-set_other}
 use Rattle.std.proofs.lemmas.List.Elements.{All-tail}
 use Rattle.std.specs.Prelude.{slice_index}
@@ -61,8 +61,12 @@ pub word_low : (bytes : List ℕ) (i : ℕ) → AreBytes bytes → word bytes i 
 unfolding word
 word_low bytes i are = omega (arith, byte_below bytes i are, byte_below bytes (i + 1) are)
 
--- two lists with the same two bytes there have the same word
+-- two lists with the same two bytes have the same word
+pub word_across : (bytes others : List ℕ) (i j : ℕ) → slice_index others j ≡ slice_index bytes i →
+    slice_index others (j + 1) ≡ slice_index bytes (i + 1) → word others j ≡ word bytes i
+unfolding word
+word_across bytes others i j high low = rw (high, low) refl
+
 pub word_same : (bytes others : List ℕ) (i : ℕ) → slice_index others i ≡ slice_index bytes i →
     slice_index others (i + 1) ≡ slice_index bytes (i + 1) → word others i ≡ word bytes i
-unfolding word
-word_same bytes others i high low = rw (high, low) refl
+word_same bytes others i high low = word_across bytes others i i high low

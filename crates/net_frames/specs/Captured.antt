@@ -1,5 +1,5 @@
 -- What clauses see of a frame.
-use Rattle.std.specs.Prelude.{ℕ, ◌+◌, ◌^◌, ◌≤◌, ◌<◌, List, length}
+use Rattle.std.specs.Prelude.{ℕ, ◌+◌, ◌≤◌, List, length}
 
 -- its room, its captured bytes, and its length on the wire
 pub record Captured : Type 0 where

@@ -54,4 +54,5 @@ fields_of bytes = record {
   source = source_of bytes (network_of bytes);
   destination = destination_of bytes (network_of bytes);
   protocol = protocol_of bytes (network_of bytes);
-  to_port = to_port_of bytes (network_of bytes) }
+  to_port = to_port_of bytes (network_of bytes);
+}

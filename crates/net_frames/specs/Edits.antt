@@ -56,8 +56,8 @@ abbrev pub readdressed_in : Network → List ℕ → Side → List ℕ → List 
 readdressed_in (Ipv4 at transport) bytes side to =
     let i = address_at side at in
     rechecked (checked_of bytes at transport)
-      (reworded (reworded bytes (at + 10) i (word to 0)) (at + 10) (i + 2) (word to 2))
-      (address_in bytes i) (address_in to 0)
+    (reworded (reworded bytes (at + 10) i (word to 0)) (at + 10) (i + 2) (word to 2))
+    (address_in bytes i) (address_in to 0)
 readdressed_in (Ipv6 _ _) bytes side to = bytes
 readdressed_in Other bytes side to = bytes
 

@@ -3,11 +3,11 @@ ghost use Rattle.wire_base.specs.declared.next_hops.NextHop.TheVariants.{Four, S
 ghost use Rattle.net_frames.specs.Contents.{fields_of, vlan_of, ether_of, source_of, destination_of, protocol_of, to_port_of, has_ports};
 ghost use Rattle.net_frames.specs.Layouts.{StandsIn};
 
-use wire_base::{Fixed, NextHop};
-
-use crate::layouts::{Network, TCP, UDP};
-use crate::layouts::{find_network, is_first_fragment, is_tagged, network_begins, word_if_captured};
+use crate::layouts::{
+    Network, TCP, UDP, find_network, is_first_fragment, is_tagged, network_begins, word_if_captured,
+};
 use crate::words::word_at;
+use wire_base::{Fixed, NextHop};
 
 /// What a frame's captured bytes say. A field that is not captured is None.
 #[derive(Clone, Copy, Debug, PartialEq, Eq)]

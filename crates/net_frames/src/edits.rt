@@ -4,8 +4,7 @@ ghost use Rattle.net_frames.specs.Edits.{marked, address_in, adjust_address, rec
 
 use crate::checksums::{adjusted, reword};
 use crate::contents::Side;
-use crate::layouts::{Checked, Network};
-use crate::layouts::{find_checked, find_network};
+use crate::layouts::{Checked, Network, find_checked, find_network};
 use crate::words::{put_word, word_at};
 
 /// Sets the DSCP of IPv4 or IPv6.
@@ -16,11 +15,20 @@ pub(crate) fn mark(bytes: &mut [u8], dscp: u8)
     match find_network(bytes) {
         Network::Ipv4 { at, .. } => {
             let first = word_at(bytes, at);
-            reword(bytes, at + 10, at, first / 256 * 256 + 4 * u16::from(dscp) + first % 4);
+            reword(
+                bytes,
+                at + 10,
+                at,
+                first / 256 * 256 + 4 * u16::from(dscp) + first % 4,
+            );
         }
         Network::Ipv6 { at, .. } => {
             let first = word_at(bytes, at);
-            put_word(bytes, at, first / 4096 * 4096 + 64 * u16::from(dscp) + first % 64);
+            put_word(
+                bytes,
+                at,
+                first / 4096 * 4096 + 64 * u16::from(dscp) + first % 64,
+            );
         }
         Network::Other => {}
     }
@@ -80,8 +88,8 @@ fn recheck(bytes: &mut [u8], checked: Checked, before: Address, after: Address)
             if checksum == 0 {
                 return;
             }
-            let checksum = adjust_for(checksum, before, after);
-            put_word(bytes, place, if checksum == 0 { 0xffff } else { checksum });
+            let next = adjust_for(checksum, before, after);
+            put_word(bytes, place, if next == 0 { 0xffff } else { next });
         }
         Checked::Unchecked => {}
     }
@@ -90,7 +98,8 @@ fn recheck(bytes: &mut [u8], checked: Checked, before: Address, after: Address)
 fn adjust_for(checksum: u16, before: Address, after: Address) -> u16
     ensures { result ≡ adjust_address checksum before after }
 {
-    adjusted(adjusted(checksum, before.high, after.high), before.low, after.low)
+    let first = adjusted(checksum, before.high, after.high);
+    adjusted(first, before.low, after.low)
 }
 
 /// Lowers the hop limit of IPv4 or IPv6 by 1; false, and nothing changed, where it is 0 or 1.

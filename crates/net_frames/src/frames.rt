@@ -2,14 +2,12 @@ ghost use Rattle.std.specs.Prelude.{◌≡◌, ◌<◌, ◌≤◌, ◌↔◌, []
 ghost use Rattle.net_frames.specs.Contents.{fields_of};
 ghost use Rattle.net_frames.specs.Edits.{with_bytes, marked, readdressed, expires, lowered, untagged, tagged, IsFullFor};
 
-use std::alloc::Global;
-use std::marker::Model;
-
-use wire_base::{Fixed, Full, OutOfMemory};
-
 use crate::contents::{Fields, Side, read_fields};
 use crate::edits::{insert_tag, lower, mark, readdress};
 use crate::layouts::is_tagged;
+use std::alloc::Global;
+use std::marker::Model;
+use wire_base::{Fixed, Full, OutOfMemory};
 
 /// As many bytes of a frame as are captured at most.
 pub const CAPTURE_LIMIT: usize = 262_144;

@@ -21,13 +21,16 @@ pub enum Checked {
 
 /// IEEE 802.1Q's customer tag and 802.1ad's service tag.
 const CUSTOMER_TAG: u16 = 0x8100;
+
 const SERVICE_TAG: u16 = 0x88a8;
 
 const IPV4: u16 = 0x0800;
+
 const IPV6: u16 = 0x86dd;
 
 /// TCP and UDP, as IPv4's protocol and IPv6's next header number them.
 pub(crate) const TCP: u8 = 6;
+
 pub(crate) const UDP: u8 = 17;
 
 /// Whether a tag stands at `i`.
@@ -88,11 +91,17 @@ pub(crate) fn find_network(bytes: &[u8]) -> Network
     if kind == IPV4 && version == 4 {
         let length = 4 * usize::from(bytes[at] % 16);
         if length >= 20 && at + length <= bytes.len() {
-            return Network::Ipv4 { at, transport: at + length };
+            return Network::Ipv4 {
+                at,
+                transport: at + length,
+            };
         }
     }
     if kind == IPV6 && version == 6 && at + 40 <= bytes.len() {
-        return Network::Ipv6 { at, transport: at + 40 };
+        return Network::Ipv6 {
+            at,
+            transport: at + 40,
+        };
     }
     Network::Other
 }

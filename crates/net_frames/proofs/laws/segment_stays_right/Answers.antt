@@ -6,4 +6,5 @@ returns c = record {
   marked = segment_marked;
   readdressed = segment_readdressed;
   lowered = segment_lowered;
-  unused = unused_readdressed }
+  unused = unused_readdressed;
+}
