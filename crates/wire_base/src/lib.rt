@@ -23,17 +23,23 @@
 #![tactic(auto)]
 
 mod byte_lists;
+mod crossing;
 mod faults;
 mod fixed_bytes;
 mod ids;
+mod laws;
 mod lists;
 mod next_hops;
 mod numbers;
+#[cfg(test)]
+mod tests;
 
 pub use byte_lists::Bytes;
+pub use crossing::types_cross_threads;
 pub use faults::{Full, OutOfMemory};
 pub use fixed_bytes::Fixed;
 pub use ids::{ForwarderId, InstanceId, Spi};
+pub use laws::a_number_has_one_spelling;
 pub use lists::List;
 pub use next_hops::NextHop;
 pub use numbers::{be_u16, be_u24, be_u32, be_u64, put_u16, put_u24, put_u32, put_u64};
