@@ -3,7 +3,8 @@ use Rattle.std.proofs.Common.{◌≡◌, ℕ, ◌+◌, ◌-◌, ◌*◌, ◌/◌
 use Rattle.std.proofs.lemmas.List.{get_or-take, get_or-drop}
 use Rattle.std.proofs.lemmas.List.Elements.{All-set}
 use Rattle.std.specs.Prelude.{slice_index, slice_range}
-use Rattle.net_frames.specs.Words.{AreBytes, word, with_word}
+use Rattle.wire_base.specs.Numbers.{AreBytes}
+use Rattle.net_frames.specs.Words.{word, with_word}
 use Rattle.net_frames.specs.Checksums.{adjust, reworded}
 use Rattle.net_frames.specs.Layouts.{network_of, checked_of}
 use Rattle.net_frames.specs.Edits.{marked, lowered, readdressed, rechecked}

@@ -2,7 +2,8 @@
 use Rattle.std.proofs.Common.{◌≡◌, ◌≢◌, ℕ, zero, suc, ◌+◌, ◌-◌, ◌*◌, ◌/◌, ◌%◌, ◌<◌, ◌≤◌, ◌⊎◌, inl, inr, ◌==◌, true, false, cond, List, length, refl, ap, sym, ◌∙◌, arith}
 use Rattle.std.proofs.lemmas.Bool.Decides.{nat_tests}
 use Rattle.std.specs.Prelude.{slice_index, slice_range, nat_le}
-use Rattle.net_frames.specs.Words.{AreBytes, word, with_word}
+use Rattle.wire_base.specs.Numbers.{AreBytes}
+use Rattle.net_frames.specs.Words.{word, with_word}
 use Rattle.net_frames.specs.Checksums.{adjust, reworded}
 use Rattle.net_frames.specs.Layouts.{network_of, checked_of}
 use Rattle.net_frames.specs.Edits.{marked, lowered, expires, readdressed, address_in, nonzero, rechecked}

@@ -3,7 +3,8 @@ use Rattle.std.proofs.Common.{◌≡◌, ◌≢◌, ℕ, zero, suc, ◌+◌, ◌
 use Rattle.std.proofs.lemmas.List.{get_or-set_same, get_or-set_other}
 use Rattle.std.proofs.lemmas.List.Elements.{All-tail}
 use Rattle.std.specs.Prelude.{slice_index}
-use Rattle.net_frames.specs.Words.{AreBytes, word, with_word}
+use Rattle.wire_base.specs.Numbers.{AreBytes}
+use Rattle.net_frames.specs.Words.{word, with_word}
 
 pub length-with_word : (bytes : List ℕ) (i number : ℕ) → length (with_word bytes i number) ≡ length bytes
 unfolding with_word

@@ -9,8 +9,8 @@ use std::alloc::Global;
 use std::marker::Model;
 use wire_base::{Fixed, Full, OutOfMemory};
 
-/// As many bytes of a frame as are captured at most.
-pub const CAPTURE_LIMIT: usize = 262_144;
+/// The most bytes of a frame that are captured.
+const CAPTURE_LIMIT: usize = 262_144;
 
 /// A captured frame, in a buffer that is made once.
 #[derive(Debug, Drop)]

@@ -1,5 +1,6 @@
 ghost use Rattle.std.specs.Prelude.{◌≡◌, ℕ, List, false, ◌+◌, ◌/◌, ◌%◌, ◌<◌};
-ghost use Rattle.net_frames.specs.Words.{AreBytes, word};
+ghost use Rattle.wire_base.specs.Numbers.{AreBytes};
+ghost use Rattle.net_frames.specs.Words.{word};
 ghost use Rattle.net_frames.specs.Captured.{Captured};
 ghost use Rattle.net_frames.specs.Checksums.{fold};
 ghost use Rattle.net_frames.specs.Layouts.{tags, network_of, checked_of};
