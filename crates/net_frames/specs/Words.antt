@@ -1,5 +1,5 @@
 -- The 16-bit words of a list of bytes, the higher byte first, and a word written in place.
-use Rattle.std.specs.Prelude.{ℕ, ◌+◌, ◌*◌, ◌/◌, ◌%◌, ◌<◌, List, slice_index, slice_set}
+use Rattle.std.specs.Prelude.{ℕ, ◌+◌, ◌*◌, ◌/◌, ◌%◌, List, slice_index, slice_set}
 
 -- the word whose higher byte stands at i; a byte past the end counts as 0
 unfoldable pub word : List ℕ → ℕ → ℕ
