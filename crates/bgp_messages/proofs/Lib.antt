@@ -1,0 +1,4 @@
+pub mod ContentLemmas
+pub mod HeaderLemmas
+pub mod RefusalLemmas
+pub mod FeedLemmas

@@ -1,0 +1,35 @@
+-- The step's answer, on the bytes behind the used ones.
+use Rattle.std.proofs.Common.{◌≡◌, ◌+◌, ◌<◌, ◌≤◌, ◌^◌, ℕ, List, length, drop, Some, refl, sym, ap, ◌∙◌, arith}
+use Rattle.std.proofs.lemmas.List.{take_rest, length-drop}
+use Rattle.bgp_messages.specs.Kept.{refused}
+use Rattle.bgp_messages.specs.Refusals.{Told, Refused}
+use Rattle.bgp_messages.specs.Faults.{told_of}
+use Rattle.bgp_messages.specs.MessageSteps.{Begins}
+use Rattle.bgp_messages.proofs.RefusalLemmas.{refused_place}
+use Rattle.bgp_messages.proofs.FeedLemmas.{rest_after, length_begun}
+use Rattle.bgp_messages.proofs.feeds.BgpFeed.next.Goals as goal
+
+pub refusal-requires-in-Refused : goal.refusal-requires-in-Refused
+refusal-requires-in-Refused c =
+    let here : Refused (drop c.self.inside.start c.self.inside.held) (told_of c.in-Refused.fault) = rw (c.as_slice.ensures, take_rest) at c.in-Refused.ensures in
+    omega (arith, refused_place _ _ here, length-drop c.self.inside.start c.self.inside.held, c.self.invariant.1, c.self.invariant.0)
+
+pub returns-in-Whole-clause-first : goal.returns-in-Whole-clause-first
+returns-in-Whole-clause-first c = λ on.
+    let begun : Begins (drop c.self.inside.start c.self.inside.held) c.in-Whole.message c.in-Whole.length = rw (c.as_slice.ensures, take_rest) at c.in-Whole.ensures in
+    rw (← c.self.view_is) (record {
+      fits = begun.message.fits;
+      rest = rw c.from.ensures (rest_after c.self.inside.held c.self.inside.start c.in-Whole.length c.in-Whole.message begun);
+      place = ap (λ (n : ℕ). c.self.inside.place + n) (c.from-in-Whole.ensures ∙ sym (length_begun _ c.in-Whole.length c.in-Whole.message begun));
+      goes_on = rw c.in-None.is refl;
+    })
+
+pub returns-in-Refused-clause-first : goal.returns-in-Refused-clause-first
+returns-in-Refused-clause-first c = λ on.
+    let here : Refused (drop c.self.inside.start c.self.inside.held) (told_of c.in-Refused.fault) = rw (c.as_slice.ensures, take_rest) at c.in-Refused.ensures in
+    rw (← c.self.view_is) (record {
+      here = record { row = told_of c.in-Refused.fault; here = here; told = c.refusal-in-Refused.ensures };
+      same_rest = refl;
+      same_place = refl;
+      stopped = ap (λ (t : Told). Some (refused t)) (sym c.refusal-in-Refused.ensures);
+    })

@@ -1,0 +1,84 @@
+-- What one call of a feed does.
+use Rattle.std.specs.Prelude.{◌≡◌, ◌≢◌, ℕ, ◌+◌, List, [], ◌∷◌, ◌++◌, length, Option, None, Some, Result, Ok, Err}
+use Rattle.bgp_messages.specs.declared.messages.Message.{Message}
+use Rattle.bgp_messages.specs.declared.refusals.Refusal.{Refusal}
+use Rattle.bgp_messages.specs.declared.feeds.NextFault.{NextFault}
+use Rattle.bgp_messages.specs.declared.feeds.NextFault.TheVariants as faults
+use Rattle.bgp_messages.specs.Messages.{spelling, Fits}
+use Rattle.bgp_messages.specs.Refusals.{Told, told_in, moved, Refused, Held}
+use Rattle.bgp_messages.specs.Kept.{Kept, Stop, refused, failed}
+
+-- the feed is the old one, stopped for want of memory
+pub record Fails (old new : Kept) : Type 0 where
+  pub same_rest : new.rest ≡ old.rest
+  pub same_place : new.place ≡ old.place
+  pub stopped : new.stop ≡ Some failed
+
+-- ---- push
+
+-- the piece is behind what the feed holds
+pub record Takes (old : Kept) (piece : List ℕ) (new : Kept) : Type 0 where
+  pub longer : new.rest ≡ old.rest ++ piece
+  pub same_place : new.place ≡ old.place
+  pub goes_on : new.stop ≡ None
+
+-- a feed that goes on takes the piece, and one that refused stays as it is
+abbrev pub PushesAt : Option Stop → Kept → List ℕ → Kept → Type 0
+PushesAt None old piece new = Takes old piece new
+PushesAt (Some (refused t)) old piece new = new ≡ old
+PushesAt (Some failed) old piece new = ⊥
+
+abbrev pub Pushes : Kept → List ℕ → Kept → Type 0
+Pushes old piece new = PushesAt old.stop old piece new
+
+-- only a feed that did not refuse fails
+abbrev pub PushFailsAt : Option Stop → Kept → Kept → Type 0
+PushFailsAt None old new = Fails old new
+PushFailsAt (Some (refused t)) old new = ⊥
+PushFailsAt (Some failed) old new = new ≡ old
+
+abbrev pub PushFails : Kept → Kept → Type 0
+PushFails old new = PushFailsAt old.stop old new
+
+-- ---- next
+
+-- the rest is refused as is told, counted from the feed's first byte
+pub record RefusedAt (feed : Kept) (t : Told) : Type 0 where
+  pub row : Told
+  pub here : Refused feed.rest row
+  pub told : t ≡ moved feed.place row
+
+-- the rest began with the message, which is used up
+pub record Gives (old new : Kept) (m : Message) : Type 0 where
+  pub fits : Fits m
+  pub rest : old.rest ≡ spelling m ++ new.rest
+  pub place : new.place ≡ old.place + length (spelling m)
+  pub goes_on : new.stop ≡ None
+
+-- the rest is held, and nothing changes
+pub record Waits (old new : Kept) : Type 0 where
+  pub held : Held old.rest
+  pub same : new ≡ old
+
+-- the rest is refused, and the feed keeps that
+pub record Refuses (old new : Kept) (r : Refusal) : Type 0 where
+  pub here : RefusedAt old (told_in r)
+  pub same_rest : new.rest ≡ old.rest
+  pub same_place : new.place ≡ old.place
+  pub stopped : new.stop ≡ Some (refused (told_in r))
+
+-- what a feed that goes on answers
+abbrev pub First : Kept → Kept → Result (Option Message) NextFault → Type 0
+First old new (Ok (Some m)) = Gives old new m
+First old new (Ok None) = Waits old new
+First old new (Err (faults.Bad r)) = Refuses old new r
+First old new (Err faults.OutOfMemory) = Fails old new
+
+-- what a feed that has stopped answers, each time
+abbrev pub Again : Stop → Result (Option Message) NextFault → Type 0
+Again (refused t) (Err (faults.Bad r)) = told_in r ≡ t
+Again (refused t) (Err faults.OutOfMemory) = ⊥
+Again (refused t) (Ok m) = ⊥
+Again failed (Err (faults.Bad r)) = ⊥
+Again failed (Err faults.OutOfMemory) = Unit {0}
+Again failed (Ok m) = ⊥
