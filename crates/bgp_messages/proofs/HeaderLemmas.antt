@@ -66,7 +66,7 @@ length-spelling m = omega arith
 
 -- ---- what waits is held
 
-unfit_not : (kind len : ℕ) → LengthFits kind len → ¬ Unfit kind len
+pub unfit_not : (kind len : ℕ) → LengthFits kind len → ¬ Unfit kind len
 unfit_not kind len fits (inl row) = absurd (omega (arith, fits.an_open row.0, row.1))
 unfit_not kind len fits (inr (inl row)) = absurd (omega (arith, fits.an_update row.0, row.1))
 unfit_not kind len fits (inr (inr (inl row))) = absurd (omega (arith, fits.a_notification row.0, row.1))

@@ -10,3 +10,4 @@ pub mod Contents
 pub mod MessageSteps
 pub mod Halts
 pub mod Calls
+pub mod Streams

@@ -16,10 +16,10 @@ use crate::opens::{Capability, Open, Param};
 use crate::refusals::Fault;
 
 /// The version of BGP (RFC 4271, section 4.2).
-const VERSION: u8 = 4;
+pub(crate) const VERSION: u8 = 4;
 
 /// The type of a parameter that holds capabilities (RFC 5492, section 4).
-const CAPABILITIES: u8 = 2;
+pub(crate) const CAPABILITIES: u8 = 2;
 
 /// Where the length of an OPEN's parameters stands in the message.
 const SIZE_PLACE: u16 = 28;

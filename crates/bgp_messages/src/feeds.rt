@@ -82,8 +82,10 @@ impl Model for BgpFeed {
 }
 
 impl BgpFeed {
-    ghost use Rattle.std.specs.Prelude.{◌≡◌, ◌+◌, ◌<◌, ◌^◌, [], length, None, OnOk, OnErr, IfSome};
+    ghost use Rattle.std.specs.Prelude.{◌≡◌, ◌+◌, ◌<◌, ◌^◌, ℕ, List, [], length, None, OnOk, OnErr, IfSome, IsSome, IfOk};
     ghost use Rattle.bgp_messages.specs.Calls.{Pushes, PushFails, First, Again};
+    ghost use Rattle.bgp_messages.specs.declared.messages.Message.{Message};
+    ghost use Rattle.bgp_messages.specs.Streams.{Stands, Next, taken_at};
 
     /// A feed that has taken nothing.
     pub fn new(alloc: Global) -> BgpFeed
@@ -107,6 +109,8 @@ impl BgpFeed {
         requires { self.old.place + length self.old.rest + length piece.now < 2 ^ 64 }
         ensures ok { OnOk result (Pushes self.old piece.now self.new) }
         ensures err { OnErr result (PushFails self.old self.new) }
+        ensures history { (taken : List ℕ) (given : List Message) → Stands self.old taken given
+            → OnOk result (Stands self.new (taken_at self.old.stop taken piece.now) given) }
     {
         match self.halt {
             Some(Halt::Refused(_)) => return Ok(()),
@@ -130,6 +134,9 @@ impl BgpFeed {
     pub fn next(&mut self) -> Result<Option<Message>, NextFault>
         ensures first { self.old.stop ≡ None → First self.old self.new result }
         ensures again { IfSome self.old.stop (λ stop. Again stop result × (self.new ≡ self.old)) }
+        ensures history { (taken : List ℕ) (given : List Message) → Stands self.old taken given → Next result self.new taken given }
+        ensures count { self.new.place + length self.new.rest ≡ self.old.place + length self.old.rest }
+        ensures falls { IfOk result (λ m. IsSome m → length self.new.rest < length self.old.rest) }
     {
         match self.halt {
             Some(Halt::Refused(fault)) => return Err(NextFault::Bad(fault.refusal(self.place))),

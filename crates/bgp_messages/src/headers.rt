@@ -1,9 +1,11 @@
 ghost use Rattle.std.specs.Prelude.{◌≡◌, ◌≢◌, ◌<◌, ◌≤◌, min, length, slice_index, MatchBool};
 ghost use Rattle.bgp_messages.specs.Headers.{LengthFits, Unfit};
 ghost use Rattle.bgp_messages.specs.HeadSteps.{FirstUnmarked, IsKindOf, HeadGives, number};
+ghost use Rattle.bgp_messages.specs.Messages.{type_of};
 
 use wire_base::be_u16;
 
+use crate::messages::Message;
 use crate::refusals::Fault;
 
 /// The bytes of a message header: marker, length, type (RFC 4271, section 4.1).
@@ -13,8 +15,8 @@ pub(crate) const HEADER: u16 = 19;
 const MOST: u16 = 4096;
 
 /// Each byte of the marker, and how many there are.
-const MARK: u8 = 0xFF;
-const MARKS: usize = 16;
+pub(crate) const MARK: u8 = 0xFF;
+pub(crate) const MARKS: usize = 16;
 
 /// The four types of messages.
 #[derive(Clone, Copy, Debug)]
@@ -26,6 +28,30 @@ pub(crate) enum Kind {
 }
 
 impl Kind {
+    /// The type of a message.
+    pub(crate) fn of_message(message: &Message) -> Kind
+        ensures { number result ≡ type_of message.now }
+    {
+        match message {
+            Message::Open(_) => Kind::Open,
+            Message::Update(_) => Kind::Update,
+            Message::Notification(_) => Kind::Notification,
+            Message::KeepAlive => Kind::KeepAlive,
+        }
+    }
+
+    /// The number of the type.
+    pub(crate) fn number(self) -> u8
+        ensures { result ≡ number self }
+    {
+        match self {
+            Kind::Open => 1,
+            Kind::Update => 2,
+            Kind::Notification => 3,
+            Kind::KeepAlive => 4,
+        }
+    }
+
     fn of(byte: u8) -> Option<Kind>
         ensures { IsKindOf byte result }
     {

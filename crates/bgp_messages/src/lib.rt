@@ -26,22 +26,20 @@
 //! ```
 #![tactic(auto)]
 
-
-
-
-
-
 mod contents;
+mod encoders;
 mod feeds;
 mod headers;
 mod items;
+mod laws;
 mod messages;
 mod notices;
 mod opens;
 mod refusals;
 
-
-
+pub use encoders::encode_message;
+pub use feeds::{BgpFeed, NextFault};
+pub use laws::one_reading;
 pub use messages::Message;
 pub use notices::Notice;
 pub use opens::{Capability, Open, Param};

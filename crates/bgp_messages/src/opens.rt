@@ -1,4 +1,9 @@
-use wire_base::{Bytes, List};
+ghost use Rattle.std.specs.Prelude.{◌≡◌, find};
+ghost use Rattle.std.specs.Option.{option_map};
+ghost use Rattle.wire_base.specs.Numbers.{Big};
+ghost use Rattle.bgp_messages.specs.Opens.{carries_as, peer_as_of};
+
+use wire_base::{Bytes, List, be_u32};
 
 /// The content of an OPEN (RFC 4271, section 4.2). Its version is 4.
 #[derive(Debug, Drop)]
@@ -24,4 +29,36 @@ pub struct Param {
 pub struct Capability {
     pub code: u8,
     pub body: Bytes,
+}
+
+/// The capability of an AS number of 4 bytes, and how many bytes its body has (RFC 6793, section 3).
+const FOUR_OCTET_AS: u8 = 65;
+const AS_BYTES: usize = 4;
+
+/// The AS of the first capability that carries one.
+fn carried_as(caps: &[Capability]) -> Option<u32>
+    ensures { result ≡ option_map (λ c. Big c.body) (find carries_as caps.now) }
+{
+    for capability in caps {
+        let body = capability.body.as_slice();
+        if capability.code == FOUR_OCTET_AS && body.len() == AS_BYTES {
+            return Some(be_u32(body));
+        }
+    }
+    None
+}
+
+impl Open {
+    /// The peer's AS: that of the first capability that carries one of 4 bytes, else that of the 2-byte field
+    /// (RFC 6793, section 4.1).
+    pub fn peer_as(&self) -> u32
+        ensures { result ≡ peer_as_of self.now }
+    {
+        for param in self.params.as_slice() {
+            if let Some(number) = carried_as(param.caps.as_slice()) {
+                return number;
+            }
+        }
+        u32::from(self.my_as)
+    }
 }
