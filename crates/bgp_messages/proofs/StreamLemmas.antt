@@ -10,7 +10,7 @@ use Rattle.bgp_messages.specs.declared.feeds.NextFault.TheVariants as faults
 use Rattle.bgp_messages.specs.Messages.{spelling, Fits, Cuts, BeginsNone}
 use Rattle.bgp_messages.specs.Refusals.{Told, told_in, moved, Refused, Held}
 use Rattle.bgp_messages.specs.Kept.{Kept, Stop, refused, failed}
-use Rattle.bgp_messages.specs.Calls.{RefusedAt, Gives, Waits, Refuses, Fails, First, Again, Takes, PushesAt, Pushes}
+use Rattle.bgp_messages.specs.Calls.{RefusedAt, Gives, Waits, Refuses, Fails, Answers}
 use Rattle.bgp_messages.specs.Streams.{StopStands, Stands, taken_at, NotYet, IsBad, Next}
 use Rattle.bgp_messages.proofs.MessageReadings.{never_both}
 
@@ -19,18 +19,6 @@ same_refused : (old new : Kept) (t : Told) → new.rest ≡ old.rest → new.pla
 same_refused old new t rest place at =
     record { row = at.row; here = subst (λ (r : List ℕ). Refused r at.row) (sym rest) at.here; told = at.told ∙ ap (λ (p : ℕ). moved p at.row) (sym place) }
 
--- a piece goes behind the rest of a feed that goes on
-pub pushed : (old new : Kept) (piece taken : List ℕ) (given : List Message) (stop : Option Stop) → old.stop ≡ stop → PushesAt stop old piece new
-    → Stands old taken given → Stands new (taken_at stop taken piece) given
-pushed old new piece taken given None is takes s = record {
-  joined = ap (λ (b : List ℕ). b ++ piece) s.joined ∙ append_assoc (flat_map spelling given) old.rest piece ∙ ap (λ (b : List ℕ). flat_map spelling given ++ b) (sym takes.longer);
-  each = s.each;
-  used = takes.same_place ∙ s.used;
-  stopped = subst (λ (o : Option Stop). StopStands new o) (sym takes.goes_on) tt;
-}
-pushed old new piece taken given (Some (refused t)) is same s = subst (λ (k : Kept). Stands k taken given) (sym same) s
-pushed old new piece taken given (Some failed) is same s = absurd same
-
 more_fits : (ms : List Message) (m : Message) → AllByRecursion Fits ms → Fits m → AllByRecursion Fits (ms ++ m ∷ [])
 more_fits [] m each one = (one, tt)
 more_fits (x ∷ ms) m each one = (each.0, more_fits ms m each.1 one)
@@ -38,7 +26,7 @@ more_fits (x ∷ ms) m each one = (each.0, more_fits ms m each.1 one)
 one_more : (ms : List Message) (m : Message) → flat_map spelling (ms ++ m ∷ []) ≡ flat_map spelling ms ++ spelling m
 one_more ms m = flat_map-append spelling ms (m ∷ []) ∙ ap (λ (b : List ℕ). flat_map spelling ms ++ b) (append-nil (spelling m))
 
-gave : (old new : Kept) (taken : List ℕ) (given : List Message) (m : Message) → Stands old taken given → Gives old new m → Stands new taken (given ++ m ∷ [])
+pub gave : (old new : Kept) (taken : List ℕ) (given : List Message) (m : Message) → Stands old taken given → Gives old new m → Stands new taken (given ++ m ∷ [])
 gave old new taken given m s g = record {
   joined = s.joined ∙ ap (λ (b : List ℕ). flat_map spelling given ++ b) g.rest ∙ sym (append_assoc (flat_map spelling given) (spelling m) new.rest) ∙ ap (λ (b : List ℕ). b ++ new.rest) (sym (one_more given m));
   each = more_fits given m s.each g.fits;
@@ -50,14 +38,10 @@ gave old new taken given m s g = record {
 cut_here : (feed : Kept) (taken : List ℕ) (given : List Message) → Stands feed taken given → BeginsNone feed.rest → Cuts taken given feed.rest
 cut_here feed taken given s none = record { joined = s.joined; each = s.each; ended = none }
 
-waited : (old new : Kept) (taken : List ℕ) (given : List Message) → Stands old taken given → Waits old new → NotYet new taken given
-waited old new taken given s w =
-    subst (λ (k : Kept). NotYet k taken given) (sym w.same) (record { stands = s; cut = cut_here old taken given s w.held.unfinished; held = w.held })
-
 bad_here : (feed : Kept) (taken : List ℕ) (given : List Message) (r : Refusal) → Stands feed taken given → RefusedAt feed (told_in r) → IsBad feed taken given r
 bad_here feed taken given r s at = record { stands = s; cut = cut_here feed taken given s (never_both feed.rest at.row at.here); here = at }
 
-refused_now : (old new : Kept) (taken : List ℕ) (given : List Message) (r : Refusal) → Stands old taken given → Refuses old new r → IsBad new taken given r
+pub refused_now : (old new : Kept) (taken : List ℕ) (given : List Message) (r : Refusal) → Stands old taken given → Refuses old new r → IsBad new taken given r
 refused_now old new taken given r s e =
     let at : RefusedAt new (told_in r) = same_refused old new (told_in r) e.same_rest e.same_place e.here in
     let stands : Stands new taken given = record {
@@ -68,27 +52,9 @@ refused_now old new taken given r s e =
     } in
     bad_here new taken given r stands at
 
-first_next : (old new : Kept) (taken : List ℕ) (given : List Message) (result : Result (Option Message) NextFault) → Stands old taken given → First old new result → Next result new taken given
-first_next old new taken given (Ok (Some m)) s f = gave old new taken given m s f
-first_next old new taken given (Ok None) s f = waited old new taken given s f
-first_next old new taken given (Err (faults.Bad r)) s f = refused_now old new taken given r s f
-first_next old new taken given (Err faults.OutOfMemory) s f = f.stopped
-
-again_next : (old new : Kept) (taken : List ℕ) (given : List Message) (result : Result (Option Message) NextFault) (t : Told) → old.stop ≡ Some (refused t) → new ≡ old
-    → Stands old taken given → Again (refused t) result → Next result new taken given
-again_next old new taken given (Ok m) t is same s a = absurd a
-again_next old new taken given (Err (faults.Bad r)) t is same s a =
-    let at : RefusedAt old t = subst (λ (o : Option Stop). StopStands old o) is s.stopped in
-    subst (λ (k : Kept). IsBad k taken given r) (sym same) (bad_here old taken given r s (subst (λ (u : Told). RefusedAt old u) (sym a) at))
-again_next old new taken given (Err faults.OutOfMemory) t is same s a = absurd a
-
--- what one call of `next` says, whether or not the feed has stopped
-abbrev pub Once : Option Stop → Kept → Kept → Result (Option Message) NextFault → Type 0
-Once None old new result = First old new result
-Once (Some stop) old new result = Again stop result × (new ≡ old)
-
-pub nexted : (old new : Kept) (taken : List ℕ) (given : List Message) (result : Result (Option Message) NextFault) (stop : Option Stop) → old.stop ≡ stop → Once stop old new result
-    → Stands old taken given → Next result new taken given
-nexted old new taken given result None is once s = first_next old new taken given result s once
-nexted old new taken given result (Some (refused t)) is once s = again_next old new taken given result t is once.1 s once.0
-nexted old new taken given result (Some failed) is once s = absurd (subst (λ (o : Option Stop). StopStands old o) is s.stopped)
+-- a feed that has stopped answers as before
+pub answered_again : (feed : Kept) (taken : List ℕ) (given : List Message) (stop : Stop) (fault : NextFault) → feed.stop ≡ Some stop → Stands feed taken given → Answers stop fault → Next (Err fault) feed taken given
+answered_again feed taken given (refused t) (faults.Bad r) is s a =
+    bad_here feed taken given r s (subst (λ (u : Told). RefusedAt feed u) (sym a) (subst (λ (o : Option Stop). StopStands feed o) is s.stopped))
+answered_again feed taken given (refused t) faults.OutOfMemory is s a = absurd a
+answered_again feed taken given failed fault is s a = absurd (subst (λ (o : Option Stop). StopStands feed o) is s.stopped)

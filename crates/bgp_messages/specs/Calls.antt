@@ -75,10 +75,12 @@ First old new (Err (faults.Bad r)) = Refuses old new r
 First old new (Err faults.OutOfMemory) = Fails old new
 
 -- what a feed that has stopped answers, each time
+abbrev pub Answers : Stop → NextFault → Type 0
+Answers (refused t) (faults.Bad r) = told_in r ≡ t
+Answers (refused t) faults.OutOfMemory = ⊥
+Answers failed (faults.Bad r) = ⊥
+Answers failed faults.OutOfMemory = Unit {0}
+
 abbrev pub Again : Stop → Result (Option Message) NextFault → Type 0
-Again (refused t) (Err (faults.Bad r)) = told_in r ≡ t
-Again (refused t) (Err faults.OutOfMemory) = ⊥
-Again (refused t) (Ok m) = ⊥
-Again failed (Err (faults.Bad r)) = ⊥
-Again failed (Err faults.OutOfMemory) = Unit {0}
-Again failed (Ok m) = ⊥
+Again stop (Ok m) = ⊥
+Again stop (Err fault) = Answers stop fault

@@ -6,13 +6,19 @@ use Rattle.bgp_messages.specs.Refusals.{moved}
 use Rattle.bgp_messages.specs.Faults.{told_of}
 use Rattle.bgp_messages.specs.Kept.{Stop, refused, failed}
 
+abbrev pub stop_at : ℕ → Halt → Stop
+stop_at place (halts.Refused fault) = refused (moved place (told_of fault))
+stop_at place halts.OutOfMemory = failed
+
 abbrev pub stop_of : ℕ → Option Halt → Option Stop
 stop_of place None = None
-stop_of place (Some (halts.Refused fault)) = Some (refused (moved place (told_of fault)))
-stop_of place (Some halts.OutOfMemory) = Some failed
+stop_of place (Some halt) = Some (stop_at place halt)
 
 -- the place of a refusal is a number of 64 bits
+abbrev pub FitsAt : ℕ → Halt → Type 0
+FitsAt place (halts.Refused fault) = place + (told_of fault).place < 2 ^ 64
+FitsAt place halts.OutOfMemory = Unit {0}
+
 abbrev pub HaltFits : ℕ → Option Halt → Type 0
 HaltFits place None = Unit {0}
-HaltFits place (Some (halts.Refused fault)) = place + (told_of fault).place < 2 ^ 64
-HaltFits place (Some halts.OutOfMemory) = Unit {0}
+HaltFits place (Some halt) = FitsAt place halt

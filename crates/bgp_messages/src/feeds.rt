@@ -53,6 +53,22 @@ enum Halt {
     OutOfMemory,
 }
 
+impl Halt {
+    ghost use Rattle.bgp_messages.specs.Halts.{stop_at, FitsAt};
+    ghost use Rattle.bgp_messages.specs.Calls.{Answers};
+
+    /// What is answered after `used` bytes of the stream.
+    fn fault(self, used: u64) -> NextFault
+        requires { FitsAt used self }
+        ensures { Answers (stop_at used self) result }
+    {
+        match self {
+            Halt::Refused(fault) => NextFault::Bad(fault.refusal(used)),
+            Halt::OutOfMemory => NextFault::OutOfMemory,
+        }
+    }
+}
+
 /// A stream of messages that comes in pieces.
 ///
 /// Clauses see the bytes that are not used up, how many were used up, and why the feed has stopped, where it has.
@@ -138,10 +154,8 @@ impl BgpFeed {
         ensures count { self.new.place + length self.new.rest ≡ self.old.place + length self.old.rest }
         ensures falls { IfOk result (λ m. IsSome m → length self.new.rest < length self.old.rest) }
     {
-        match self.halt {
-            Some(Halt::Refused(fault)) => return Err(NextFault::Bad(fault.refusal(self.place))),
-            Some(Halt::OutOfMemory) => return Err(NextFault::OutOfMemory),
-            None => {}
+        if let Some(halt) = self.halt {
+            return Err(halt.fault(self.place));
         }
         match message_step(self.alloc, &self.held.as_slice()[self.start..]) {
             MessageStep::Wait => Ok(None),
