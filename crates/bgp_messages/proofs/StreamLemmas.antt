@@ -10,9 +10,9 @@ use Rattle.bgp_messages.specs.declared.feeds.NextFault.TheVariants as faults
 use Rattle.bgp_messages.specs.Messages.{spelling, Fits, Cuts, BeginsNone}
 use Rattle.bgp_messages.specs.Refusals.{Told, told_in, moved, Refused, Held}
 use Rattle.bgp_messages.specs.Kept.{Kept, Stop, refused, failed}
-use Rattle.bgp_messages.specs.Calls.{RefusedAt, Gives, Waits, Refuses, Fails, Answers}
+use Rattle.bgp_messages.specs.Calls.{RefusedAt, Gives, Waits, Refuses, First, Answers, GivesThe, SaysNotYet, Tells, Exact}
 use Rattle.bgp_messages.specs.Streams.{StopStands, Stands, taken_at, NotYet, IsBad, Next}
-use Rattle.bgp_messages.proofs.MessageReadings.{never_both}
+use Rattle.bgp_messages.proofs.MessageReadings.{one_message, never_both, one_refusal}
 
 -- a feed with the same rest and the same place is refused as the first is
 same_refused : (old new : Kept) (t : Told) → new.rest ≡ old.rest → new.place ≡ old.place → RefusedAt old t → RefusedAt new t
@@ -58,3 +58,33 @@ answered_again feed taken given (refused t) (faults.Bad r) is s a =
     bad_here feed taken given r s (subst (λ (u : Told). RefusedAt feed u) (sym a) (subst (λ (o : Option Stop). StopStands feed o) is s.stopped))
 answered_again feed taken given (refused t) faults.OutOfMemory is s a = absurd a
 answered_again feed taken given failed fault is s a = absurd (subst (λ (o : Option Stop). StopStands feed o) is s.stopped)
+
+-- ---- the answer that the rest asks for
+
+message_asked : (old new : Kept) (result : Result (Option Message) NextFault) → First old new result → (m : Message) (more : List ℕ) → Fits m → old.rest ≡ spelling m ++ more → GivesThe m result
+message_asked old new (Ok (Some given)) g m more fits e =
+    let one = one_message given m new.rest more g.fits fits (sym g.rest ∙ e) in
+    one.0
+message_asked old new (Ok None) w m more fits e = w.held.unfinished m more fits e
+message_asked old new (Err (faults.Bad r)) row m more fits e = never_both old.rest row.here.row row.here.here m more fits e
+message_asked old new (Err faults.OutOfMemory) f m more fits e = tt
+
+not_yet_asked : (old new : Kept) (result : Result (Option Message) NextFault) → First old new result → Held old.rest → SaysNotYet result
+not_yet_asked old new (Ok (Some given)) g held = held.unfinished given new.rest g.fits g.rest
+not_yet_asked old new (Ok None) w held = tt
+not_yet_asked old new (Err (faults.Bad r)) row held = held.accepted row.here.row row.here.here
+not_yet_asked old new (Err faults.OutOfMemory) f held = tt
+
+bad_asked : (old new : Kept) (result : Result (Option Message) NextFault) → First old new result → (t : Told) → Refused old.rest t → Tells (moved old.place t) result
+bad_asked old new (Ok (Some given)) g t here = never_both old.rest t here given new.rest g.fits g.rest
+bad_asked old new (Ok None) w t here = w.held.accepted t here
+bad_asked old new (Err (faults.Bad r)) row t here =
+    row.here.told ∙ ap (λ (u : Told). moved old.place u) (one_refusal old.rest row.here.row t row.here.here here)
+bad_asked old new (Err faults.OutOfMemory) f t here = tt
+
+pub exact_from_first : (old new : Kept) (result : Result (Option Message) NextFault) → First old new result → Exact old result
+exact_from_first old new result f = record {
+  message = message_asked old new result f;
+  not_yet = not_yet_asked old new result f;
+  bad = bad_asked old new result f;
+}

@@ -84,3 +84,29 @@ Answers failed faults.OutOfMemory = Unit {0}
 abbrev pub Again : Stop → Result (Option Message) NextFault → Type 0
 Again stop (Ok m) = ⊥
 Again stop (Err fault) = Answers stop fault
+
+-- the message that the bytes begin with is given
+abbrev pub GivesThe : Message → Result (Option Message) NextFault → Type 0
+GivesThe m (Ok (Some given)) = given ≡ m
+GivesThe m (Ok None) = ⊥
+GivesThe m (Err (faults.Bad r)) = ⊥
+GivesThe m (Err faults.OutOfMemory) = Unit {0}
+
+-- the answer is "not yet"
+abbrev pub SaysNotYet : Result (Option Message) NextFault → Type 0
+SaysNotYet (Ok (Some m)) = ⊥
+SaysNotYet (Ok None) = Unit {0}
+SaysNotYet (Err (faults.Bad r)) = ⊥
+SaysNotYet (Err faults.OutOfMemory) = Unit {0}
+
+-- the refusal is told
+abbrev pub Tells : Told → Result (Option Message) NextFault → Type 0
+Tells t (Ok m) = ⊥
+Tells t (Err (faults.Bad r)) = told_in r ≡ t
+Tells t (Err faults.OutOfMemory) = Unit {0}
+
+-- the answer that the rest asks for, unless there is no memory
+pub record Exact (feed : Kept) (result : Result (Option Message) NextFault) : Type 0 where
+  pub message : (m : Message) (more : List ℕ) → Fits m → feed.rest ≡ spelling m ++ more → GivesThe m result
+  pub not_yet : Held feed.rest → SaysNotYet result
+  pub bad : (t : Told) → Refused feed.rest t → Tells (moved feed.place t) result

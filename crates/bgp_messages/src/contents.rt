@@ -1,4 +1,5 @@
-ghost use Rattle.std.specs.Prelude.{◌≡◌, ◌≤◌, ◌<◌, ◌+◌, ◌^◌, length, IfOk};
+ghost use Rattle.std.specs.Prelude.{◌≡◌, ◌≤◌, ◌<◌, ◌+◌, ◌^◌, length, IfOk, MatchBool};
+ghost use Rattle.bgp_messages.specs.Refusals.{BadHold};
 ghost use Rattle.bgp_messages.specs.HeadSteps.{number};
 ghost use Rattle.bgp_messages.specs.Headers.{LengthFits};
 ghost use Rattle.bgp_messages.specs.Contents.{CapabilitiesGive, ParametersGive, OpenGives, ContentGives};
@@ -17,6 +18,9 @@ use crate::refusals::Fault;
 
 /// The version of BGP (RFC 4271, section 4.2).
 pub(crate) const VERSION: u8 = 4;
+
+/// The least hold time that is not 0 (RFC 4271, section 4.2).
+const LEAST_HOLD: u16 = 3;
 
 /// The type of a parameter that holds capabilities (RFC 5492, section 4).
 pub(crate) const CAPABILITIES: u8 = 2;
@@ -91,6 +95,13 @@ fn read_parameters(alloc: Global, bytes: &[u8]) -> Result<List<Param>, ContentFa
     Ok(params)
 }
 
+/// Whether a session may have this hold time.
+fn is_acceptable(hold: u16) -> bool
+    ensures { MatchBool result (¬ BadHold hold) (BadHold hold) }
+{
+    hold == 0 || hold >= LEAST_HOLD
+}
+
 /// An OPEN from its content (RFC 4271, section 6.2).
 fn read_open(alloc: Global, content: &[u8]) -> Result<Open, ContentFault>
     requires { 10 ≤ length content.now }
@@ -100,7 +111,7 @@ fn read_open(alloc: Global, content: &[u8]) -> Result<Open, ContentFault>
         return Err(ContentFault::Refused(Fault::Version));
     }
     let hold = be_u16(&content[3..]);
-    if hold == 1 || hold == 2 {
+    if !is_acceptable(hold) {
         return Err(ContentFault::Refused(Fault::HoldTime));
     }
     let id = be_u32(&content[5..]);

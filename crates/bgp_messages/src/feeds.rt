@@ -98,8 +98,8 @@ impl Model for BgpFeed {
 }
 
 impl BgpFeed {
-    ghost use Rattle.std.specs.Prelude.{◌≡◌, ◌+◌, ◌<◌, ◌^◌, ℕ, List, [], length, None, OnOk, OnErr, IfSome, IsSome, IfOk};
-    ghost use Rattle.bgp_messages.specs.Calls.{Pushes, PushFails, First, Again};
+    ghost use Rattle.std.specs.Prelude.{◌≡◌, ◌+◌, ◌<◌, ◌≤◌, ◌^◌, ℕ, List, [], length, None, OnOk, OnErr, IfSome, IsSome, IfOk};
+    ghost use Rattle.bgp_messages.specs.Calls.{Pushes, PushFails, First, Again, Exact};
     ghost use Rattle.bgp_messages.specs.declared.messages.Message.{Message};
     ghost use Rattle.bgp_messages.specs.Streams.{Stands, Next, taken_at};
 
@@ -127,6 +127,7 @@ impl BgpFeed {
         ensures err { OnErr result (PushFails self.old self.new) }
         ensures history { (taken : List ℕ) (given : List Message) → Stands self.old taken given
             → OnOk result (Stands self.new (taken_at self.old.stop taken piece.now) given) }
+        ensures count { self.new.place + length self.new.rest ≤ self.old.place + length self.old.rest + length piece.now }
     {
         match self.halt {
             Some(Halt::Refused(_)) => return Ok(()),
@@ -149,6 +150,7 @@ impl BgpFeed {
     /// The next message of the stream; `None` is "not yet".
     pub fn next(&mut self) -> Result<Option<Message>, NextFault>
         ensures first { self.old.stop ≡ None → First self.old self.new result }
+        ensures exact { self.old.stop ≡ None → Exact self.old result }
         ensures again { IfSome self.old.stop (λ stop. Again stop result × (self.new ≡ self.old)) }
         ensures history { (taken : List ℕ) (given : List Message) → Stands self.old taken given → Next result self.new taken given }
         ensures count { self.new.place + length self.new.rest ≡ self.old.place + length self.old.rest }

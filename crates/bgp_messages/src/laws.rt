@@ -1,4 +1,5 @@
 ghost use Rattle.std.specs.Prelude.{◌≡◌, ℕ, List, ◌++◌};
+ghost use Rattle.std.specs.List.{flat_map, AllByRecursion};
 ghost use Rattle.bgp_messages.specs.declared.messages.Message.{Message};
 ghost use Rattle.bgp_messages.specs.Messages.{spelling, Fits, Cuts, BeginsNone};
 ghost use Rattle.bgp_messages.specs.Refusals.{Told, Refused};
@@ -11,5 +12,7 @@ pub fn one_reading()
     ensures never_both { (bytes : List ℕ) (t : Told) → Refused bytes t → BeginsNone bytes }
     ensures one_refusal { (bytes : List ℕ) (s t : Told) → Refused bytes s → Refused bytes t → s ≡ t }
     ensures one_cut { (stream : List ℕ) (ms ns : List Message) (x y : List ℕ) → Cuts stream ms x → Cuts stream ns y → (ms ≡ ns) × (x ≡ y) }
+    ensures first_of_cut { (stream : List ℕ) (ms all : List Message) (x y : List ℕ) → stream ≡ flat_map spelling ms ++ x → AllByRecursion Fits ms
+        → Cuts stream all y → (more : List Message) × (all ≡ ms ++ more) }
 {
 }

@@ -44,3 +44,6 @@ pub use messages::Message;
 pub use notices::Notice;
 pub use opens::{Capability, Open, Param};
 pub use refusals::Refusal;
+
+#[cfg(test)]
+mod tests;

@@ -1,8 +1,9 @@
 -- The fields that were read are those of the content's cells.
-use Rattle.std.proofs.Common.{◌≡◌, ℕ, ◌+◌, ◌*◌, ◌<◌, length, get_or, take, drop, sym, ap, ◌∙◌, arith}
+use Rattle.std.proofs.Common.{◌≡◌, ℕ, ◌+◌, ◌*◌, ◌<◌, length, get_or, take, drop, sym, ap, ◌∙◌, inl, inr, arith}
 use Rattle.std.proofs.lemmas.List.{take_rest, get_or-drop}
 use Rattle.wire_base.specs.Numbers.{Big}
 use Rattle.bgp_messages.specs.Opens.{parameters_bytes}
+use Rattle.bgp_messages.specs.Refusals.{BadHold}
 use Rattle.bgp_messages.proofs.ContentLemmas.{FieldsAre, open_spelled}
 use Rattle.bgp_messages.proofs.contents.read_open.Goals as goal
 
@@ -22,13 +23,14 @@ returns c =
       size = size;
       params = params;
     } in
+    let acceptable : ¬ BadHold c.be_u16-hold.result = c.if-not-is_acceptable.ensures in
     record {
       spelled = open_spelled b _ (record { each = λ i. omega (arith, c.type_inv.content i) }) fields;
       fits = record {
         my_as = c.be_u16-my_as.type_inv;
         hold = c.be_u16-hold.type_inv;
-        not_one = c.if-hold-eq1.false;
-        not_two = c.if-hold-eq2.false;
+        not_one = λ one. acceptable (inl one);
+        not_two = λ other. acceptable (inr other);
         id = c.be_u32-id.type_inv;
         some_id = omega arith;
         size = omega (arith, ap length params, size, small);

@@ -1,5 +1,5 @@
 -- The laws of readings.
-use Rattle.bgp_messages.proofs.MessageReadings.{one_message, never_both, one_refusal, one_cut}
+use Rattle.bgp_messages.proofs.MessageReadings.{one_message, never_both, one_refusal, one_cut, first_of_cut}
 use Rattle.bgp_messages.proofs.laws.one_reading.Goals as goal
 
 pub returns-clause-one_message : goal.returns-clause-one_message
@@ -13,3 +13,6 @@ returns-clause-one_refusal c = one_refusal
 
 pub returns-clause-one_cut : goal.returns-clause-one_cut
 returns-clause-one_cut c = one_cut
+
+pub returns-clause-first_of_cut : goal.returns-clause-first_of_cut
+returns-clause-first_of_cut c = first_of_cut

@@ -1,12 +1,13 @@
 -- The step's answer, on the bytes behind the used ones.
-use Rattle.std.proofs.Common.{◌≡◌, ◌+◌, ◌<◌, ◌≤◌, ◌^◌, ℕ, List, length, drop, Some, None, refl, sym, ap, ◌∙◌, arith}
+use Rattle.std.proofs.Common.{◌≡◌, ◌+◌, ◌<◌, ◌≤◌, ◌^◌, ℕ, List, length, drop, Some, None, Ok, Err, refl, sym, ap, ◌∙◌, arith}
 use Rattle.std.proofs.lemmas.List.{take_rest, length-drop}
+use Rattle.bgp_messages.specs.declared.feeds.NextFault.TheVariants as faults
 use Rattle.bgp_messages.specs.Kept.{refused}
-use Rattle.bgp_messages.specs.Refusals.{Told, told_in, moved, Refused}
+use Rattle.bgp_messages.specs.Refusals.{Told, told_in, moved, Refused, Held}
 use Rattle.bgp_messages.specs.Faults.{told_of}
 use Rattle.bgp_messages.specs.MessageSteps.{Begins}
 use Rattle.bgp_messages.specs.Halts.{stop_at, stop_of}
-use Rattle.bgp_messages.proofs.StreamLemmas.{gave, refused_now, answered_again}
+use Rattle.bgp_messages.proofs.StreamLemmas.{gave, refused_now, answered_again, exact_from_first}
 use Rattle.bgp_messages.proofs.RefusalLemmas.{refused_place}
 use Rattle.bgp_messages.proofs.FeedLemmas.{rest_after, length_begun}
 use Rattle.bgp_messages.proofs.feeds.BgpFeed.next.Goals as goal
@@ -50,3 +51,15 @@ pub returns-in-Refused-clause-history : goal.returns-in-Refused-clause-history
 returns-in-Refused-clause-history c = λ taken given stands.
     let on : c.args.self.now.stop ≡ None = rw (← c.self.view_is) (ap (stop_of c.self.inside.place) c.in_default.is) in
     refused_now c.args.self.now _ taken given c.refusal.result stands (returns-in-Refused-clause-first c on)
+
+pub returns-in-Wait-clause-exact : goal.returns-in-Wait-clause-exact
+returns-in-Wait-clause-exact c = λ on.
+    let here : Held (drop c.self.inside.start c.self.inside.held) = rw (c.as_slice.ensures, take_rest) at c.in-Wait.ensures in
+    let held : Held c.args.self.now.rest = rw (← c.self.view_is) here in
+    exact_from_first c.args.self.now c.args.self.now (Ok None) (record { held = held; same = refl })
+
+pub returns-in-Whole-clause-exact : goal.returns-in-Whole-clause-exact
+returns-in-Whole-clause-exact c = λ on. exact_from_first c.args.self.now _ (Ok (Some c.in-Whole.message)) (returns-in-Whole-clause-first c on)
+
+pub returns-in-Refused-clause-exact : goal.returns-in-Refused-clause-exact
+returns-in-Refused-clause-exact c = λ on. exact_from_first c.args.self.now _ (Err (faults.Bad c.refusal.result)) (returns-in-Refused-clause-first c on)
