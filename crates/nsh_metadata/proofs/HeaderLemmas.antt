@@ -1,7 +1,7 @@
 -- Headers and refusals of the same bytes.
 use Rattle.std.proofs.Common.{◌≡◌, ℕ, ◌+◌, ◌-◌, ◌*◌, ◌<◌, ◌≤◌, List, [], ◌∷◌, ◌++◌, length, drop, take, get_or, refl, sym, ap, subst, ◌∙◌, append_assoc, arith, inl, inr, ◌⊎◌}
 use Rattle.std.proofs.lemmas.List.{take-append-drop, length-append, length-take, length-take-le, length-drop, take-take, get_or-take, drop-take, take_all, append-nil}
-use Rattle.wire_base.specs.Numbers.{Big}
+use Rattle.wire_base.specs.Numbers.{big_endian}
 use Rattle.nsh_headers.specs.declared.heads.NshHead.{NshHead}
 use Rattle.nsh_headers.specs.declared.faults.NshFault.{NshFault}
 use Rattle.nsh_headers.specs.declared.faults.NshFault.TheVariants.{Short, Version, MdType, Length, Context}
@@ -24,10 +24,10 @@ pub IsHead-take : (b : List ℕ) (n : ℕ) (h : NshHead) → 8 ≤ n → IsHead 
 IsHead-take b n h long s =
     record {
       long = omega (arith, length-take n b, s.long);
-      first_word = ap Big (take-take 2 n b (omega arith)) ∙ s.first_word;
+      first_word = ap big_endian (take-take 2 n b (omega arith)) ∙ s.first_word;
       third = get_or-take n b 2 0 (omega arith) ∙ s.third;
       next = get_or-take n b 3 0 (omega arith) ∙ s.next;
-      spi = ap (λ (t : List ℕ). Big (take 3 t)) (drop_take 4 n b (omega arith)) ∙ ap Big (take-take 3 (n - 4) (drop 4 b) (omega arith)) ∙ s.spi;
+      spi = ap (λ (t : List ℕ). big_endian (take 3 t)) (drop_take 4 n b (omega arith)) ∙ ap big_endian (take-take 3 (n - 4) (drop 4 b) (omega arith)) ∙ s.spi;
       si = get_or-take n b 7 0 (omega arith) ∙ s.si;
       fits = s.fits;
     }
@@ -37,10 +37,10 @@ IsHead-from_take b n h s =
     let long : 8 ≤ n = omega (arith, length-take n b, s.long) in
     record {
       long = omega (arith, length-take n b, s.long);
-      first_word = ap Big (sym (take-take 2 n b (omega arith))) ∙ s.first_word;
+      first_word = ap big_endian (sym (take-take 2 n b (omega arith))) ∙ s.first_word;
       third = sym (get_or-take n b 2 0 (omega arith)) ∙ s.third;
       next = sym (get_or-take n b 3 0 (omega arith)) ∙ s.next;
-      spi = ap Big (sym (take-take 3 (n - 4) (drop 4 b) (omega arith))) ∙ ap (λ (t : List ℕ). Big (take 3 t)) (sym (drop_take 4 n b (omega arith))) ∙ s.spi;
+      spi = ap big_endian (sym (take-take 3 (n - 4) (drop 4 b) (omega arith))) ∙ ap (λ (t : List ℕ). big_endian (take 3 t)) (sym (drop_take 4 n b (omega arith))) ∙ s.spi;
       si = sym (get_or-take n b 7 0 (omega arith)) ∙ s.si;
       fits = s.fits;
     }
