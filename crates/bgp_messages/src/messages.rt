@@ -1,0 +1,14 @@
+use wire_base::Bytes;
+
+use crate::notices::Notice;
+use crate::opens::Open;
+
+/// A message (RFC 4271, section 4), without its header.
+#[derive(Debug, Drop)]
+pub enum Message {
+    Open(Open),
+    /// The bytes after the message header, unread.
+    Update(Bytes),
+    Notification(Notice),
+    KeepAlive,
+}
