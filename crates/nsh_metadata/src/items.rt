@@ -1,7 +1,7 @@
 //! Context items of MD Type 2 (RFC 8300, section 2.5.1).
 
 ghost use Rattle.std.specs.Prelude.{◌≡◌, ◌+◌, ◌-◌, ◌*◌, ◌/◌, ◌%◌, ◌<◌, ◌≤◌, ◌↔◌, ◌∷◌, [], ◌++◌, length, take, drop, slice_index, slice_get, IsErr, IsTrue, OnOk, OnErr, Some};
-ghost use Rattle.nsh_metadata.specs.Item.{pad_len, item_len, item_bytes, items_bytes, items_in, item_at, item_size, new_item, AreItems, HoldsItems};
+ghost use Rattle.nsh_metadata.specs.Item.{IsItem, pad_len, item_len, item_bytes, items_bytes, items_in, item_at, item_size, new_item, AreItems, HoldsItems};
 ghost use Rattle.nsh_metadata.specs.Shown.{shown};
 
 use std::marker::Model;
@@ -125,7 +125,8 @@ impl ItemList {
     /// The item at a place, counted from 0.
     pub fn item(&self, i: usize) -> ItemRef<'_>
         requires { i < length self.now }
-        ensures { slice_get self.now i ≡ Some (shown result) }
+        ensures item { slice_get self.now i ≡ Some (shown result) }
+        ensures fits { IsItem (shown result) }
     {
         let mut rest = self.bytes();
         for _ in 0..i {
