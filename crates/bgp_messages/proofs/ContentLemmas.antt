@@ -1,7 +1,7 @@
 -- Contents as they are read: an OPEN from its cells, and where a capability is refused.
 use Rattle.std.proofs.Common.{◌≡◌, ℕ, ◌+◌, ◌-◌, ◌*◌, ◌/◌, ◌%◌, ◌<◌, ◌≤◌, List, ◌∷◌, ◌++◌, length, get_or, take, drop, Err, ap, subst, ◌∙◌, inr, arith}
 use Rattle.std.proofs.lemmas.List.{length-append}
-use Rattle.wire_base.specs.Numbers.{Big}
+use Rattle.wire_base.specs.Numbers.{big_endian}
 use Rattle.bgp_messages.specs.declared.opens.Open.{Open}
 use Rattle.bgp_messages.specs.declared.opens.Param.{Param}
 use Rattle.bgp_messages.specs.declared.contents.ContentFault.{ContentFault}
@@ -34,7 +34,7 @@ pub record FieldsAre (bytes : List ℕ) (o : Open) : Type 0 where
   pub version : get_or bytes 0 0 ≡ 4
   pub my_as : o.my_as ≡ 256 * get_or bytes 1 0 + get_or bytes 2 0
   pub hold : o.hold ≡ 256 * get_or bytes 3 0 + get_or bytes 4 0
-  pub id : o.id ≡ Big (take 4 (drop 5 bytes))
+  pub id : o.id ≡ big_endian (take 4 (drop 5 bytes))
   pub size : get_or bytes 9 0 ≡ length (drop 10 bytes)
   pub params : drop 10 bytes ≡ parameters_bytes o.params
 

@@ -4,7 +4,7 @@ use Rattle.std.specs.Prelude.{find}
 use Rattle.std.specs.Option.{option_map, option_map_or, option_or}
 use Rattle.std.proofs.lemmas.List.{drop_more}
 use Rattle.std.proofs.lemmas.List.Folds.{find-append}
-use Rattle.wire_base.specs.Numbers.{Big}
+use Rattle.wire_base.specs.Numbers.{big_endian}
 use Rattle.bgp_messages.specs.declared.opens.Capability.{Capability}
 use Rattle.bgp_messages.specs.declared.opens.Param.{Param}
 use Rattle.bgp_messages.specs.Opens.{carries_as, capabilities_of}
@@ -18,7 +18,7 @@ as_step ps i p lt e =
     ∙ find-append carries_as p.caps (capabilities_of (drop (i + 1) ps))
 
 abbrev as_number : Capability → ℕ
-as_number c = Big c.body
+as_number c = big_endian c.body
 
 first_found : (o later : Option Capability) (n other : ℕ) → Some n ≡ option_map as_number o → n ≡ option_map_or as_number (option_or o later) other
 first_found None later n other e = absurd cc

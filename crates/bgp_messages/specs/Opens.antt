@@ -2,7 +2,7 @@
 use Rattle.std.specs.Prelude.{◌≢◌, ℕ, ◌/◌, ◌%◌, ◌^◌, ◌<◌, ◌==◌, Bool, ◌&&◌, List, [], ◌∷◌, ◌++◌, length, find}
 use Rattle.std.specs.List.{flat_map}
 use Rattle.std.specs.Option.{option_map_or}
-use Rattle.wire_base.specs.Numbers.{Big}
+use Rattle.wire_base.specs.Numbers.{big_endian}
 use Rattle.bgp_messages.specs.declared.opens.Open.{Open}
 use Rattle.bgp_messages.specs.declared.opens.Param.{Param}
 use Rattle.bgp_messages.specs.declared.opens.Capability.{Capability}
@@ -55,4 +55,4 @@ capabilities_of ps = flat_map (λ p. p.caps) ps
 
 -- the AS of the first capability that carries one, else that of the AS field
 abbrev pub peer_as_of : Open → ℕ
-peer_as_of o = option_map_or (λ c. Big c.body) (find carries_as (capabilities_of o.params)) o.my_as
+peer_as_of o = option_map_or (λ c. big_endian c.body) (find carries_as (capabilities_of o.params)) o.my_as

@@ -1,6 +1,6 @@
 ghost use Rattle.std.specs.Prelude.{◌≡◌, find};
 ghost use Rattle.std.specs.Option.{option_map};
-ghost use Rattle.wire_base.specs.Numbers.{Big};
+ghost use Rattle.wire_base.specs.Numbers.{big_endian};
 ghost use Rattle.bgp_messages.specs.Opens.{carries_as, peer_as_of};
 
 use wire_base::{Bytes, List, be_u32};
@@ -38,7 +38,7 @@ const AS_BYTES: usize = 4;
 
 /// The AS of the first capability that carries one.
 fn carried_as(caps: &[Capability]) -> Option<u32>
-    ensures { result ≡ option_map (λ c. Big c.body) (find carries_as caps.now) }
+    ensures { result ≡ option_map (λ c. big_endian c.body) (find carries_as caps.now) }
 {
     for capability in caps {
         let body = capability.body.as_slice();

@@ -1,0 +1,3 @@
+pub mod Captures
+pub mod Fronts
+pub mod Heads
