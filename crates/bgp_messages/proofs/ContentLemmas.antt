@@ -1,15 +1,14 @@
 -- Contents as they are read: an OPEN from its cells, and where a capability is refused.
-use Rattle.std.proofs.Common.{◌≡◌, ◌≢◌, ℕ, ◌+◌, ◌-◌, ◌*◌, ◌/◌, ◌%◌, ◌^◌, ◌<◌, ◌≤◌, List, [], ◌∷◌, ◌++◌, length, get_or, take, drop, Result, Ok, Err, refl, sym, ap, subst, ◌∙◌, inl, inr, arith}
+use Rattle.std.proofs.Common.{◌≡◌, ℕ, ◌+◌, ◌-◌, ◌*◌, ◌/◌, ◌%◌, ◌<◌, ◌≤◌, List, ◌∷◌, ◌++◌, length, get_or, take, drop, Err, ap, subst, ◌∙◌, inr, arith}
 use Rattle.std.proofs.lemmas.List.{length-append}
 use Rattle.wire_base.specs.Numbers.{big_endian}
 use Rattle.bgp_messages.specs.declared.opens.Open.{Open}
 use Rattle.bgp_messages.specs.declared.opens.Param.{Param}
 use Rattle.bgp_messages.specs.declared.contents.ContentFault.{ContentFault}
 use Rattle.bgp_messages.specs.declared.contents.ContentFault.TheVariants as faults
-use Rattle.bgp_messages.specs.Opens.{two, four, parameters_bytes, open_bytes, OpenFits}
+use Rattle.bgp_messages.specs.Opens.{parameters_bytes, open_bytes}
 use Rattle.bgp_messages.specs.Items.{Splits}
-use Rattle.bgp_messages.specs.Refusals.{RefusedCapability}
-use Rattle.bgp_messages.specs.Contents.{CapabilitiesGive, ParametersGive, ReadsOpen}
+use Rattle.bgp_messages.specs.Contents.{CapabilitiesGive, ParametersGive}
 
 -- a refusal inside a parameter is one of the whole list
 pub refused_inside : (bytes : List ℕ) (good : List Param) (bad value more : List ℕ) (code : ℕ) (fault : ContentFault)

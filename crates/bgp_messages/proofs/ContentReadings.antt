@@ -1,18 +1,12 @@
 -- Two readings of one content are one: its items, its parameters, and what is refused in it.
-use Rattle.std.proofs.Common.{◌≡◌, ◌≢◌, ℕ, zero, suc, ◌+◌, ◌-◌, ◌*◌, ◌/◌, ◌%◌, ◌<◌, ◌≤◌, List, [], ◌∷◌, ◌++◌, length, get_or, take, drop, replicate, refl, sym, ap, subst, ◌∙◌, inl, inr, ◌⊎◌, arith, append_assoc}
+use Rattle.std.proofs.Common.{◌≡◌, ℕ, ◌+◌, ◌<◌, List, [], ◌∷◌, ◌++◌, length, get_or, drop, refl, sym, ap, subst, ◌∙◌, inl, inr, ◌⊎◌, arith}
 use Rattle.std.specs.List.{flat_map, AllByRecursion}
-use Rattle.std.proofs.lemmas.List.{append-nil, length-append, take_at, length-take, length-drop}
-use Rattle.bgp_messages.specs.declared.messages.Message.{Message}
-use Rattle.bgp_messages.specs.declared.messages.Message.TheVariants as variants
-use Rattle.bgp_messages.specs.declared.notices.Notice.{Notice}
+use Rattle.std.proofs.lemmas.List.{append-nil, length-append}
 use Rattle.bgp_messages.specs.declared.opens.Open.{Open}
 use Rattle.bgp_messages.specs.declared.opens.Param.{Param}
 use Rattle.bgp_messages.specs.declared.opens.Capability.{Capability}
-use Rattle.bgp_messages.specs.Opens.{two, four, capability_bytes, value_bytes, parameter_bytes, parameters_bytes, open_bytes, OpenFits}
-use Rattle.bgp_messages.specs.Messages.{type_of, content, spelling, ContentFits, Fits, BeginsNone, Cuts}
-use Rattle.bgp_messages.specs.Headers.{Marked, length_of, kind_of, OutOfRange, UnknownType, Unfit, LengthFits}
-use Rattle.bgp_messages.specs.Refusals.{Told, HasLength, IsWhole, RunsPast, RefusedCapability, RunningParameter, OtherParameter, BadParameter, RefusedParameter, RefusedParameters, BadHold, NoIdentifier, hold_in, FieldsFit, RefusedVersion, RefusedHold, RefusedIdentifier, RefusedSize, RefusedList, RefusedContent, RefusedMarker, RefusedLength, RefusedType, RefusedLeast, RefusedOpen, Refused, content_in}
-use Rattle.bgp_messages.proofs.HeaderLemmas.{Shows, shows}
+use Rattle.bgp_messages.specs.Opens.{capability_bytes, value_bytes, parameter_bytes, parameters_bytes, open_bytes, OpenFits}
+use Rattle.bgp_messages.specs.Refusals.{Told, RunsPast, RefusedCapability, RefusedParameter, RefusedParameters, BadHold, NoIdentifier, hold_in, RefusedHold, RefusedIdentifier, RefusedSize, RefusedList, RefusedContent}
 use Rattle.bgp_messages.proofs.SplitLemmas.{Reads, same_parts, one_split}
 
 -- every value fits
@@ -153,8 +147,8 @@ one_parameters_told place bytes s t a b =
     let goods : a.good ≡ b.good = one.0 in
     let bads : a.bad ≡ b.bad = one.1 in
     let first : RefusedParameter (place + length (parameters_bytes b.good)) b.bad s =
-        subst (λ (r : List ℕ). RefusedParameter (place + length (parameters_bytes b.good)) r s) bads
-            (subst (λ (ps : List Param). RefusedParameter (place + length (parameters_bytes ps)) a.bad s) goods a.first) in
+    subst (λ (r : List ℕ). RefusedParameter (place + length (parameters_bytes b.good)) r s) bads
+    (subst (λ (ps : List Param). RefusedParameter (place + length (parameters_bytes ps)) a.bad s) goods a.first) in
     one_parameter_told (place + length (parameters_bytes b.good)) b.bad s t first b.first
 
 -- ---- an OPEN's content

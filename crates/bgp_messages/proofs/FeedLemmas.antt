@@ -1,6 +1,6 @@
 -- A feed's buffer: what is left of it where its front was a message.
-use Rattle.std.proofs.Common.{◌≡◌, ℕ, ◌+◌, ◌-◌, ◌<◌, ◌≤◌, List, ◌++◌, length, take, drop, refl, sym, ap, ◌∙◌, arith}
-use Rattle.std.proofs.lemmas.List.{take-append-drop, drop-drop, length-take, take_rest}
+use Rattle.std.proofs.Common.{◌≡◌, ℕ, ◌+◌, List, ◌++◌, length, drop, sym, ap, ◌∙◌, arith}
+use Rattle.std.proofs.lemmas.List.{take-append-drop, drop-drop, length-take}
 use Rattle.bgp_messages.specs.declared.messages.Message.{Message}
 use Rattle.bgp_messages.specs.Messages.{spelling}
 use Rattle.bgp_messages.specs.MessageSteps.{Begins}

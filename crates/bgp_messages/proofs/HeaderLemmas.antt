@@ -1,16 +1,12 @@
 -- Headers: what a spelled message shows, and what is spelled by the cells of a header and a content.
-use Rattle.std.proofs.Common.{◌≡◌, ◌≢◌, ℕ, zero, suc, ◌+◌, ◌-◌, ◌*◌, ◌/◌, ◌%◌, ◌<◌, ◌≤◌, min, List, [], ◌∷◌, ◌++◌, length, get_or, take, drop, replicate, refl, sym, ap, subst, ◌∙◌, inl, inr, ◌⊎◌, arith, append_assoc, Ok, Err}
-use Rattle.std.proofs.lemmas.List.{take-append-drop, get_or-take, get_or-replicate, length-append, length-take, length-drop, drop-drop, take_at, drop_at, get_or-drop}
+use Rattle.std.proofs.Common.{◌≡◌, ℕ, zero, suc, ◌+◌, ◌-◌, ◌*◌, ◌/◌, ◌%◌, ◌<◌, ◌≤◌, List, [], ◌∷◌, ◌++◌, length, get_or, take, drop, replicate, refl, sym, ap, subst, ◌∙◌, inl, inr, arith}
+use Rattle.std.proofs.lemmas.List.{take-append-drop, get_or-take, get_or-replicate, length-append, length-take, length-drop, drop-drop, take_at, get_or-drop}
 use Rattle.bgp_messages.specs.declared.messages.Message.{Message}
-use Rattle.bgp_messages.specs.declared.refusals.Fault.{Fault}
-use Rattle.bgp_messages.specs.declared.contents.ContentFault.TheVariants as faults
-use Rattle.bgp_messages.specs.Opens.{two}
-use Rattle.bgp_messages.specs.Messages.{type_of, content, spelling, Fits, IsMessage, BeginsNone}
-use Rattle.bgp_messages.specs.Headers.{Marked, length_of, kind_of, OutOfRange, UnknownType, Unfit, LengthFits}
-use Rattle.bgp_messages.specs.Refusals.{Told, HasLength, IsWhole, Refused, RefusedOpen, Held, content_in}
-use Rattle.bgp_messages.specs.Faults.{told_of}
+use Rattle.bgp_messages.specs.Messages.{type_of, content, spelling, Fits, BeginsNone}
+use Rattle.bgp_messages.specs.Headers.{Marked, length_of, kind_of, Unfit, LengthFits}
+use Rattle.bgp_messages.specs.Refusals.{Told, IsWhole, Refused, Held, content_in}
 use Rattle.bgp_messages.specs.HeadSteps.{Waits}
-use Rattle.bgp_messages.specs.Contents.{Reads, RefusedAs}
+use Rattle.bgp_messages.specs.Contents.{Reads}
 use Rattle.bgp_messages.specs.MessageSteps.{Begins}
 use Rattle.bgp_messages.proofs.ContentLemmas.{AreBytes}
 
@@ -101,8 +97,8 @@ whole_cells bytes kind len w =
     let least : 19 ≤ len = omega (arith, w.before.least, w.len_is) in
     let size : length front ≡ len = omega (arith, length-take (len - 19) (drop 19 bytes), length-drop 19 bytes, w.there, least) in
     let parts : bytes ≡ front ++ drop (len - 19) (drop 19 bytes) =
-        header_cells bytes w.before.there w.before.marker
-        ∙ ap (λ (t : List ℕ). replicate 16 255 ++ get_or bytes 16 0 ∷ get_or bytes 17 0 ∷ get_or bytes 18 0 ∷ t) (sym (take-append-drop (len - 19) (drop 19 bytes))) in
+    header_cells bytes w.before.there w.before.marker
+    ∙ ap (λ (t : List ℕ). replicate 16 255 ++ get_or bytes 16 0 ∷ get_or bytes 17 0 ∷ get_or bytes 18 0 ∷ t) (sym (take-append-drop (len - 19) (drop 19 bytes))) in
     ap (λ (b : List ℕ). take len b) parts ∙ take_at front (drop (len - 19) (drop 19 bytes)) len size
 
 length-content_in : (bytes : List ℕ) (kind len : ℕ) → IsWhole bytes kind len → 19 + length (content_in len bytes) ≡ len

@@ -1,7 +1,7 @@
 -- Two readings of the same bytes are one: a message, a refusal, a stream.
-use Rattle.std.proofs.Common.{◌≡◌, ◌≢◌, ℕ, zero, suc, ◌+◌, ◌-◌, ◌*◌, ◌/◌, ◌%◌, ◌<◌, ◌≤◌, List, [], ◌∷◌, ◌++◌, length, get_or, take, drop, refl, sym, ap, subst, ◌∙◌, inl, inr, ◌⊎◌, arith}
+use Rattle.std.proofs.Common.{◌≡◌, ℕ, ◌+◌, ◌-◌, ◌/◌, ◌%◌, List, [], ◌∷◌, ◌++◌, length, get_or, take, drop, refl, sym, ap, subst, ◌∙◌, inl, inr, ◌⊎◌, arith}
 use Rattle.std.specs.List.{flat_map, AllByRecursion}
-use Rattle.std.proofs.lemmas.List.{append-nil, length-append, take_at}
+use Rattle.std.proofs.lemmas.List.{take_at}
 use Rattle.std.proofs.lemmas.Bool.{cases_lt}
 use Rattle.bgp_messages.specs.declared.messages.Message.{Message}
 use Rattle.bgp_messages.specs.declared.messages.Message.TheVariants as variants
@@ -11,7 +11,7 @@ use Rattle.bgp_messages.specs.declared.opens.Param.{Param}
 use Rattle.bgp_messages.specs.Opens.{parameters_bytes, open_bytes, OpenFits}
 use Rattle.bgp_messages.specs.Messages.{type_of, content, spelling, ContentFits, Fits, BeginsNone, Cuts}
 use Rattle.bgp_messages.specs.Headers.{Marked, length_of, kind_of, OutOfRange, UnknownType, Unfit, LengthFits}
-use Rattle.bgp_messages.specs.Refusals.{Told, HasLength, IsWhole, RefusedContent, RefusedMarker, RefusedLength, RefusedType, RefusedLeast, RefusedOpen, Refused, content_in}
+use Rattle.bgp_messages.specs.Refusals.{Told, HasLength, RefusedContent, RefusedMarker, RefusedLength, RefusedType, RefusedLeast, RefusedOpen, Refused, content_in}
 use Rattle.bgp_messages.proofs.HeaderLemmas.{Shows, shows, unfit_not}
 use Rattle.bgp_messages.proofs.SplitLemmas.{Reads, same_parts, one_split, front_split}
 use Rattle.bgp_messages.proofs.ContentReadings.{one_parameters_whole, one_content_told, good_content}

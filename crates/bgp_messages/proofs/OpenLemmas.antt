@@ -1,5 +1,5 @@
 -- The first capability that carries an AS, parameter by parameter.
-use Rattle.std.proofs.Common.{◌≡◌, ℕ, ◌+◌, ◌<◌, List, ◌∷◌, ◌++◌, length, get_or, drop, Option, Some, None, refl, sym, ap, subst, ◌∙◌, arith}
+use Rattle.std.proofs.Common.{◌≡◌, ℕ, ◌+◌, ◌<◌, List, ◌∷◌, length, get_or, drop, Option, Some, None, refl, sym, ap, subst, ◌∙◌}
 use Rattle.std.specs.Prelude.{find}
 use Rattle.std.specs.Option.{option_map, option_map_or, option_or}
 use Rattle.std.proofs.lemmas.List.{drop_more}
@@ -29,7 +29,7 @@ pub found : (ps : List Param) (i : ℕ) (p : Param) (n other : ℕ) → i < leng
     → n ≡ option_map_or as_number (find carries_as (capabilities_of ps)) other
 found ps i p n other lt e is so_far =
     subst (λ (o : Option Capability). n ≡ option_map_or as_number o other) (sym (as_step ps i p lt e) ∙ so_far)
-        (first_found (find carries_as p.caps) (find carries_as (capabilities_of (drop (i + 1) ps))) n other is)
+    (first_found (find carries_as p.caps) (find carries_as (capabilities_of (drop (i + 1) ps))) n other is)
 
 none_found : (o later : Option Capability) → None ≡ option_map as_number o → option_or o later ≡ later
 none_found None later e = refl

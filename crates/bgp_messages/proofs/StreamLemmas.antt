@@ -1,8 +1,8 @@
 -- What a feed stands for after each call.
-use Rattle.std.proofs.Common.{◌≡◌, ℕ, ◌+◌, ◌<◌, ◌≤◌, List, [], ◌∷◌, ◌++◌, length, Option, None, Some, Result, Ok, Err, refl, sym, ap, subst, ◌∙◌, append_assoc, arith}
+use Rattle.std.proofs.Common.{◌≡◌, ℕ, ◌+◌, List, [], ◌∷◌, ◌++◌, length, Option, None, Some, Result, Ok, Err, sym, ap, subst, ◌∙◌, append_assoc}
 use Rattle.std.specs.List.{flat_map, AllByRecursion}
 use Rattle.std.proofs.lemmas.List.{append-nil, length-append}
-use Rattle.std.proofs.lemmas.List.Concat.{flat_map-append, flat_map-cons}
+use Rattle.std.proofs.lemmas.List.Concat.{flat_map-append}
 use Rattle.bgp_messages.specs.declared.messages.Message.{Message}
 use Rattle.bgp_messages.specs.declared.refusals.Refusal.{Refusal}
 use Rattle.bgp_messages.specs.declared.feeds.NextFault.{NextFault}
@@ -10,8 +10,8 @@ use Rattle.bgp_messages.specs.declared.feeds.NextFault.TheVariants as faults
 use Rattle.bgp_messages.specs.Messages.{spelling, Fits, Cuts, BeginsNone}
 use Rattle.bgp_messages.specs.Refusals.{Told, told_in, moved, Refused, Held}
 use Rattle.bgp_messages.specs.Kept.{Kept, Stop, refused, failed}
-use Rattle.bgp_messages.specs.Calls.{RefusedAt, Gives, Waits, Refuses, First, Answers, GivesThe, SaysNotYet, Tells, Exact}
-use Rattle.bgp_messages.specs.Streams.{StopStands, Stands, taken_at, NotYet, IsBad, Next}
+use Rattle.bgp_messages.specs.Calls.{RefusedAt, Gives, Refuses, First, Answers, GivesThe, SaysNotYet, Tells, Exact}
+use Rattle.bgp_messages.specs.Streams.{StopStands, Stands, IsBad, Next}
 use Rattle.bgp_messages.proofs.MessageReadings.{one_message, never_both, one_refusal}
 
 -- a feed with the same rest and the same place is refused as the first is

@@ -1,5 +1,4 @@
 -- What is told of each fault, counted from the message's first byte.
-use Rattle.std.specs.Prelude.{ℕ, List}
 use Rattle.bgp_messages.specs.declared.refusals.Fault.{Fault}
 use Rattle.bgp_messages.specs.declared.refusals.Fault.TheVariants as faults
 use Rattle.bgp_messages.specs.Refusals.{Told, not_synchronized, bad_length, bad_type, malformed, bad_version, bad_identifier, bad_parameter, bad_hold_time}

@@ -4,7 +4,7 @@ use Rattle.bgp_messages.specs.declared.headers.Kind.{Kind}
 use Rattle.bgp_messages.specs.declared.headers.Kind.TheVariants as kinds
 use Rattle.bgp_messages.specs.declared.headers.HeadStep.{HeadStep}
 use Rattle.bgp_messages.specs.declared.headers.HeadStep.TheVariants as steps
-use Rattle.bgp_messages.specs.Headers.{Marked, length_of, kind_of, UnknownType, Unfit, LengthFits}
+use Rattle.bgp_messages.specs.Headers.{Marked, length_of, kind_of, UnknownType, LengthFits}
 use Rattle.bgp_messages.specs.Refusals.{Refused, IsWhole}
 use Rattle.bgp_messages.specs.Faults.{told_of}
 

@@ -1,5 +1,5 @@
 -- What the step over a message answers.
-use Rattle.std.specs.Prelude.{◌≡◌, ℕ, ◌<◌, ◌≤◌, List, length, take}
+use Rattle.std.specs.Prelude.{ℕ, ◌<◌, ◌≤◌, List, length, take}
 use Rattle.bgp_messages.specs.declared.messages.Message.{Message}
 use Rattle.bgp_messages.specs.declared.feeds.MessageStep.{MessageStep}
 use Rattle.bgp_messages.specs.declared.feeds.MessageStep.TheVariants as steps

@@ -5,16 +5,14 @@ ghost use Rattle.bgp_messages.specs.Headers.{LengthFits};
 ghost use Rattle.bgp_messages.specs.Contents.{CapabilitiesGive, ParametersGive, OpenGives, ContentGives};
 ghost use Rattle.bgp_messages.specs.declared.contents.ContentFault.TheVariants.{OutOfMemory as NoMemory};
 
-use std::alloc::Global;
-
-use wire_base::{Bytes, List, OutOfMemory, be_u16, be_u32};
-
 use crate::headers::Kind;
 use crate::items::item_of;
 use crate::messages::Message;
 use crate::notices::Notice;
 use crate::opens::{Capability, Open, Param};
 use crate::refusals::Fault;
+use std::alloc::Global;
+use wire_base::{Bytes, List, OutOfMemory, be_u16, be_u32};
 
 /// The version of BGP (RFC 4271, section 4.2).
 pub(crate) const VERSION: u8 = 4;
@@ -55,7 +53,11 @@ fn copy_of(alloc: Global, bytes: &[u8]) -> Result<Bytes, OutOfMemory>
 }
 
 /// The capabilities that fill the value of a parameter, which begins at the place.
-fn read_capabilities(alloc: Global, place: u16, value: &[u8]) -> Result<List<Capability>, ContentFault>
+fn read_capabilities(
+    alloc: Global,
+    place: u16,
+    value: &[u8],
+) -> Result<List<Capability>, ContentFault>
     requires { place + length value.now < 2 ^ 16 }
     ensures { CapabilitiesGive place value.now result }
 {
@@ -67,7 +69,10 @@ fn read_capabilities(alloc: Global, place: u16, value: &[u8]) -> Result<List<Cap
             return Err(ContentFault::Refused(Fault::Malformed(place + before)));
         };
         let body = copy_of(alloc, item.value)?;
-        caps.push(Capability { code: item.code, body })?;
+        caps.push(Capability {
+            code: item.code,
+            body,
+        })?;
         rest = item.rest;
     }
     Ok(caps)
@@ -133,7 +138,11 @@ fn read_open(alloc: Global, content: &[u8]) -> Result<Open, ContentFault>
 }
 
 /// A message from its type and its content, whose length fits the type.
-pub(crate) fn read_content(alloc: Global, kind: Kind, content: &[u8]) -> Result<Message, ContentFault>
+pub(crate) fn read_content(
+    alloc: Global,
+    kind: Kind,
+    content: &[u8],
+) -> Result<Message, ContentFault>
     requires { LengthFits (number kind) (19 + length content.now) }
     ensures { ContentGives (number kind) content.now result }
 {

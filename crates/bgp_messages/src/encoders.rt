@@ -3,14 +3,12 @@ ghost use Rattle.std.specs.List.{flat_map};
 ghost use Rattle.bgp_messages.specs.Opens.{two, four, capability_bytes, parameters_bytes, open_bytes, OpenFits};
 ghost use Rattle.bgp_messages.specs.Messages.{content, ContentFits, Fits, IsMessage, type_of};
 
-use std::alloc::Global;
-
-use wire_base::{Bytes, List, OutOfMemory};
-
 use crate::contents::{CAPABILITIES, VERSION};
 use crate::headers::{HEADER, Kind, MARK, MARKS};
 use crate::messages::Message;
 use crate::opens::{Capability, Open, Param};
+use std::alloc::Global;
+use wire_base::{Bytes, List, OutOfMemory};
 
 /// A number as 2 bytes, the highest first.
 fn two_bytes(number: u16) -> [u8; 2]

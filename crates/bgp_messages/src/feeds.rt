@@ -1,15 +1,13 @@
 ghost use Rattle.std.specs.Prelude.{◌≡◌, ◌+◌, ◌<◌, ◌≤◌, ◌^◌, ℕ, List, [], length, None};
 ghost use Rattle.bgp_messages.specs.MessageSteps.{MessageGives};
 
-use std::alloc::Global;
-use std::marker::Model;
-
-use wire_base::{Bytes, OutOfMemory};
-
 use crate::contents::{ContentFault, read_content};
 use crate::headers::{HEADER, HeadStep, head_step};
 use crate::messages::Message;
 use crate::refusals::{Fault, Refusal};
+use std::alloc::Global;
+use std::marker::Model;
+use wire_base::{Bytes, OutOfMemory};
 
 /// Why no message is given.
 #[derive(Debug, Drop)]

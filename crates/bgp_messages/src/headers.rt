@@ -3,10 +3,9 @@ ghost use Rattle.bgp_messages.specs.Headers.{LengthFits, Unfit};
 ghost use Rattle.bgp_messages.specs.HeadSteps.{FirstUnmarked, IsKindOf, HeadGives, number};
 ghost use Rattle.bgp_messages.specs.Messages.{type_of};
 
-use wire_base::be_u16;
-
 use crate::messages::Message;
 use crate::refusals::Fault;
+use wire_base::be_u16;
 
 /// The bytes of a message header: marker, length, type (RFC 4271, section 4.1).
 pub(crate) const HEADER: u16 = 19;
@@ -16,6 +15,7 @@ const MOST: u16 = 4096;
 
 /// Each byte of the marker, and how many there are.
 pub(crate) const MARK: u8 = 0xFF;
+
 pub(crate) const MARKS: usize = 16;
 
 /// The four types of messages.

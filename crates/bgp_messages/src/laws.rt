@@ -14,5 +14,4 @@ pub fn one_reading()
     ensures one_cut { (stream : List ℕ) (ms ns : List Message) (x y : List ℕ) → Cuts stream ms x → Cuts stream ns y → (ms ≡ ns) × (x ≡ y) }
     ensures first_of_cut { (stream : List ℕ) (ms all : List Message) (x y : List ℕ) → stream ≡ flat_map spelling ms ++ x → AllByRecursion Fits ms
         → Cuts stream all y → (more : List Message) × (all ≡ ms ++ more) }
-{
-}
+{}

@@ -1,7 +1,6 @@
-use wire_base::Bytes;
-
 use crate::notices::Notice;
 use crate::opens::Open;
+use wire_base::Bytes;
 
 /// A message (RFC 4271, section 4), without its header.
 #[derive(Debug, Drop)]

@@ -33,6 +33,7 @@ pub struct Capability {
 
 /// The capability of an AS number of 4 bytes, and how many bytes its body has (RFC 6793, section 3).
 const FOUR_OCTET_AS: u8 = 65;
+
 const AS_BYTES: usize = 4;
 
 /// The AS of the first capability that carries one.

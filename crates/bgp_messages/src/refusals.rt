@@ -38,18 +38,25 @@ pub(crate) enum Fault {
 
 /// Error codes (RFC 4271, section 4.5).
 const MESSAGE_HEADER_ERROR: u8 = 1;
+
 const OPEN_MESSAGE_ERROR: u8 = 2;
 
 /// Subcodes of a message header error (RFC 4271, section 6.1).
 const CONNECTION_NOT_SYNCHRONIZED: u8 = 1;
+
 const BAD_MESSAGE_LENGTH: u8 = 2;
+
 const BAD_MESSAGE_TYPE: u8 = 3;
 
 /// Subcodes of an OPEN message error (RFC 4271, section 6.2).
 const UNSPECIFIC: u8 = 0;
+
 const UNSUPPORTED_VERSION_NUMBER: u8 = 1;
+
 const BAD_BGP_IDENTIFIER: u8 = 3;
+
 const UNSUPPORTED_OPTIONAL_PARAMETER: u8 = 4;
+
 const UNACCEPTABLE_HOLD_TIME: u8 = 6;
 
 /// The largest version number that is spoken, as a NOTIFICATION says it.
@@ -76,14 +83,34 @@ impl Fault {
         ensures { told_in result ≡ moved used (told_of self) }
     {
         let (code, subcode, place, info) = match self {
-            Fault::Marker(at) => (MESSAGE_HEADER_ERROR, CONNECTION_NOT_SYNCHRONIZED, at, no_info()),
-            Fault::Length(high, low) => (MESSAGE_HEADER_ERROR, BAD_MESSAGE_LENGTH, 16, ArrayVec::from([high, low])),
+            Fault::Marker(at) => (
+                MESSAGE_HEADER_ERROR,
+                CONNECTION_NOT_SYNCHRONIZED,
+                at,
+                no_info(),
+            ),
+            Fault::Length(high, low) => (
+                MESSAGE_HEADER_ERROR,
+                BAD_MESSAGE_LENGTH,
+                16,
+                ArrayVec::from([high, low]),
+            ),
             Fault::Type(kind) => (MESSAGE_HEADER_ERROR, BAD_MESSAGE_TYPE, 18, one_byte(kind)),
-            Fault::Version => (OPEN_MESSAGE_ERROR, UNSUPPORTED_VERSION_NUMBER, 19, ArrayVec::from(VERSION_DATA)),
+            Fault::Version => (
+                OPEN_MESSAGE_ERROR,
+                UNSUPPORTED_VERSION_NUMBER,
+                19,
+                ArrayVec::from(VERSION_DATA),
+            ),
             Fault::HoldTime => (OPEN_MESSAGE_ERROR, UNACCEPTABLE_HOLD_TIME, 22, no_info()),
             Fault::Identifier => (OPEN_MESSAGE_ERROR, BAD_BGP_IDENTIFIER, 24, no_info()),
             Fault::Malformed(at) => (OPEN_MESSAGE_ERROR, UNSPECIFIC, at, no_info()),
-            Fault::Parameter(at) => (OPEN_MESSAGE_ERROR, UNSUPPORTED_OPTIONAL_PARAMETER, at, no_info()),
+            Fault::Parameter(at) => (
+                OPEN_MESSAGE_ERROR,
+                UNSUPPORTED_OPTIONAL_PARAMETER,
+                at,
+                no_info(),
+            ),
         };
         Refusal {
             code,

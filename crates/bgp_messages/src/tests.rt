@@ -21,36 +21,248 @@ const MARKER: [u8; 16] = [0xFF; 16];
 /// What follows a whole marker, and is refused.
 fn behind_the_marker() -> [Case; 30] {
     [
-        Case { name: "length zero", bytes: &[0, 0], code: 1, subcode: 2, place: 16, info: &[0, 0] },
-        Case { name: "length 18", bytes: &[0, 18], code: 1, subcode: 2, place: 16, info: &[0, 18] },
-        Case { name: "length 4097", bytes: &[0x10, 1], code: 1, subcode: 2, place: 16, info: &[0x10, 1] },
-        Case { name: "type 0", bytes: &[0, 19, 0], code: 1, subcode: 3, place: 18, info: &[0] },
-        Case { name: "type 5", bytes: &[0x10, 0, 5], code: 1, subcode: 3, place: 18, info: &[5] },
-        Case { name: "OPEN of 28", bytes: &[0, 28, 1], code: 1, subcode: 2, place: 16, info: &[0, 28] },
-        Case { name: "UPDATE of 22", bytes: &[0, 22, 2], code: 1, subcode: 2, place: 16, info: &[0, 22] },
-        Case { name: "NOTIFICATION of 20", bytes: &[0, 20, 3], code: 1, subcode: 2, place: 16, info: &[0, 20] },
-        Case { name: "KEEPALIVE of 20", bytes: &[0, 20, 4], code: 1, subcode: 2, place: 16, info: &[0, 20] },
-        Case { name: "version 3", bytes: &[0, 29, 1, 3, 0, 1, 0, 1, 0, 0, 0, 0, 9], code: 2, subcode: 1, place: 19, info: &[0, 4] },
-        Case { name: "version 5", bytes: &[0, 29, 1, 5, 0, 1, 0, 90, 0, 0, 0, 1, 0], code: 2, subcode: 1, place: 19, info: &[0, 4] },
-        Case { name: "hold time 1", bytes: &[0, 29, 1, 4, 0, 1, 0, 1, 0, 0, 0, 0, 9], code: 2, subcode: 6, place: 22, info: &[] },
-        Case { name: "hold time 2", bytes: &[0, 29, 1, 4, 0, 1, 0, 2, 0, 0, 0, 1, 0], code: 2, subcode: 6, place: 22, info: &[] },
-        Case { name: "identifier 0", bytes: &[0, 29, 1, 4, 0, 1, 0, 0, 0, 0, 0, 0, 9], code: 2, subcode: 3, place: 24, info: &[] },
-        Case { name: "parameters too short", bytes: &[0, 29, 1, 4, 0, 1, 0, 90, 0, 0, 0, 1, 1], code: 2, subcode: 0, place: 28, info: &[] },
-        Case { name: "parameters too long", bytes: &[0, 31, 1, 4, 0, 1, 0, 90, 0, 0, 0, 1, 1, 1, 0], code: 2, subcode: 0, place: 28, info: &[] },
-        Case { name: "half a parameter header", bytes: &[0, 30, 1, 4, 0, 1, 0, 90, 0, 0, 0, 1, 1, 2], code: 2, subcode: 0, place: 29, info: &[] },
-        Case { name: "a value past the end", bytes: &[0, 31, 1, 4, 0, 1, 0, 90, 0, 0, 0, 1, 2, 3, 1], code: 2, subcode: 0, place: 29, info: &[] },
-        Case { name: "the second value past the end", bytes: &[0, 33, 1, 4, 0, 1, 0, 90, 0, 0, 0, 1, 4, 2, 0, 2, 1], code: 2, subcode: 0, place: 31, info: &[] },
-        Case { name: "a parameter of type 1", bytes: &[0, 31, 1, 4, 0, 1, 0, 90, 0, 0, 0, 1, 2, 1, 0], code: 2, subcode: 4, place: 29, info: &[] },
-        Case { name: "the second of type 3", bytes: &[0, 33, 1, 4, 0, 1, 0, 90, 0, 0, 0, 1, 4, 2, 0, 3, 0], code: 2, subcode: 4, place: 31, info: &[] },
-        Case { name: "half a capability header", bytes: &[0, 32, 1, 4, 0, 1, 0, 90, 0, 0, 0, 1, 3, 2, 1, 65], code: 2, subcode: 0, place: 31, info: &[] },
-        Case { name: "a body past the parameter", bytes: &[0, 33, 1, 4, 0, 1, 0, 90, 0, 0, 0, 1, 4, 2, 2, 65, 1], code: 2, subcode: 0, place: 31, info: &[] },
-        Case { name: "the second body past the parameter", bytes: &[0, 36, 1, 4, 0, 1, 0, 90, 0, 0, 0, 1, 7, 2, 5, 64, 0, 1, 2, 7], code: 2, subcode: 0, place: 33, info: &[] },
-        Case { name: "a capability before the next parameter", bytes: &[0, 33, 1, 4, 0, 1, 0, 90, 0, 0, 0, 1, 4, 2, 1, 65, 2], code: 2, subcode: 0, place: 31, info: &[] },
-        Case { name: "type before capabilities", bytes: &[0, 32, 1, 4, 0, 1, 0, 90, 0, 0, 0, 1, 3, 1, 1, 65], code: 2, subcode: 4, place: 29, info: &[] },
-        Case { name: "version before hold time", bytes: &[0, 29, 1, 3, 0, 1, 0, 2, 0, 0, 0, 0, 0], code: 2, subcode: 1, place: 19, info: &[0, 4] },
-        Case { name: "hold time before identifier", bytes: &[0, 29, 1, 4, 0, 1, 0, 2, 0, 0, 0, 0, 0], code: 2, subcode: 6, place: 22, info: &[] },
-        Case { name: "identifier before the size", bytes: &[0, 29, 1, 4, 0, 1, 0, 90, 0, 0, 0, 0, 7], code: 2, subcode: 3, place: 24, info: &[] },
-        Case { name: "length before type", bytes: &[0, 18, 9], code: 1, subcode: 2, place: 16, info: &[0, 18] },
+        Case {
+            name: "length zero",
+            bytes: &[0, 0],
+            code: 1,
+            subcode: 2,
+            place: 16,
+            info: &[0, 0],
+        },
+        Case {
+            name: "length 18",
+            bytes: &[0, 18],
+            code: 1,
+            subcode: 2,
+            place: 16,
+            info: &[0, 18],
+        },
+        Case {
+            name: "length 4097",
+            bytes: &[0x10, 1],
+            code: 1,
+            subcode: 2,
+            place: 16,
+            info: &[0x10, 1],
+        },
+        Case {
+            name: "type 0",
+            bytes: &[0, 19, 0],
+            code: 1,
+            subcode: 3,
+            place: 18,
+            info: &[0],
+        },
+        Case {
+            name: "type 5",
+            bytes: &[0x10, 0, 5],
+            code: 1,
+            subcode: 3,
+            place: 18,
+            info: &[5],
+        },
+        Case {
+            name: "OPEN of 28",
+            bytes: &[0, 28, 1],
+            code: 1,
+            subcode: 2,
+            place: 16,
+            info: &[0, 28],
+        },
+        Case {
+            name: "UPDATE of 22",
+            bytes: &[0, 22, 2],
+            code: 1,
+            subcode: 2,
+            place: 16,
+            info: &[0, 22],
+        },
+        Case {
+            name: "NOTIFICATION of 20",
+            bytes: &[0, 20, 3],
+            code: 1,
+            subcode: 2,
+            place: 16,
+            info: &[0, 20],
+        },
+        Case {
+            name: "KEEPALIVE of 20",
+            bytes: &[0, 20, 4],
+            code: 1,
+            subcode: 2,
+            place: 16,
+            info: &[0, 20],
+        },
+        Case {
+            name: "version 3",
+            bytes: &[0, 29, 1, 3, 0, 1, 0, 1, 0, 0, 0, 0, 9],
+            code: 2,
+            subcode: 1,
+            place: 19,
+            info: &[0, 4],
+        },
+        Case {
+            name: "version 5",
+            bytes: &[0, 29, 1, 5, 0, 1, 0, 90, 0, 0, 0, 1, 0],
+            code: 2,
+            subcode: 1,
+            place: 19,
+            info: &[0, 4],
+        },
+        Case {
+            name: "hold time 1",
+            bytes: &[0, 29, 1, 4, 0, 1, 0, 1, 0, 0, 0, 0, 9],
+            code: 2,
+            subcode: 6,
+            place: 22,
+            info: &[],
+        },
+        Case {
+            name: "hold time 2",
+            bytes: &[0, 29, 1, 4, 0, 1, 0, 2, 0, 0, 0, 1, 0],
+            code: 2,
+            subcode: 6,
+            place: 22,
+            info: &[],
+        },
+        Case {
+            name: "identifier 0",
+            bytes: &[0, 29, 1, 4, 0, 1, 0, 0, 0, 0, 0, 0, 9],
+            code: 2,
+            subcode: 3,
+            place: 24,
+            info: &[],
+        },
+        Case {
+            name: "parameters too short",
+            bytes: &[0, 29, 1, 4, 0, 1, 0, 90, 0, 0, 0, 1, 1],
+            code: 2,
+            subcode: 0,
+            place: 28,
+            info: &[],
+        },
+        Case {
+            name: "parameters too long",
+            bytes: &[0, 31, 1, 4, 0, 1, 0, 90, 0, 0, 0, 1, 1, 1, 0],
+            code: 2,
+            subcode: 0,
+            place: 28,
+            info: &[],
+        },
+        Case {
+            name: "half a parameter header",
+            bytes: &[0, 30, 1, 4, 0, 1, 0, 90, 0, 0, 0, 1, 1, 2],
+            code: 2,
+            subcode: 0,
+            place: 29,
+            info: &[],
+        },
+        Case {
+            name: "a value past the end",
+            bytes: &[0, 31, 1, 4, 0, 1, 0, 90, 0, 0, 0, 1, 2, 3, 1],
+            code: 2,
+            subcode: 0,
+            place: 29,
+            info: &[],
+        },
+        Case {
+            name: "the second value past the end",
+            bytes: &[0, 33, 1, 4, 0, 1, 0, 90, 0, 0, 0, 1, 4, 2, 0, 2, 1],
+            code: 2,
+            subcode: 0,
+            place: 31,
+            info: &[],
+        },
+        Case {
+            name: "a parameter of type 1",
+            bytes: &[0, 31, 1, 4, 0, 1, 0, 90, 0, 0, 0, 1, 2, 1, 0],
+            code: 2,
+            subcode: 4,
+            place: 29,
+            info: &[],
+        },
+        Case {
+            name: "the second of type 3",
+            bytes: &[0, 33, 1, 4, 0, 1, 0, 90, 0, 0, 0, 1, 4, 2, 0, 3, 0],
+            code: 2,
+            subcode: 4,
+            place: 31,
+            info: &[],
+        },
+        Case {
+            name: "half a capability header",
+            bytes: &[0, 32, 1, 4, 0, 1, 0, 90, 0, 0, 0, 1, 3, 2, 1, 65],
+            code: 2,
+            subcode: 0,
+            place: 31,
+            info: &[],
+        },
+        Case {
+            name: "a body past the parameter",
+            bytes: &[0, 33, 1, 4, 0, 1, 0, 90, 0, 0, 0, 1, 4, 2, 2, 65, 1],
+            code: 2,
+            subcode: 0,
+            place: 31,
+            info: &[],
+        },
+        Case {
+            name: "the second body past the parameter",
+            bytes: &[
+                0, 36, 1, 4, 0, 1, 0, 90, 0, 0, 0, 1, 7, 2, 5, 64, 0, 1, 2, 7,
+            ],
+            code: 2,
+            subcode: 0,
+            place: 33,
+            info: &[],
+        },
+        Case {
+            name: "a capability before the next parameter",
+            bytes: &[0, 33, 1, 4, 0, 1, 0, 90, 0, 0, 0, 1, 4, 2, 1, 65, 2],
+            code: 2,
+            subcode: 0,
+            place: 31,
+            info: &[],
+        },
+        Case {
+            name: "type before capabilities",
+            bytes: &[0, 32, 1, 4, 0, 1, 0, 90, 0, 0, 0, 1, 3, 1, 1, 65],
+            code: 2,
+            subcode: 4,
+            place: 29,
+            info: &[],
+        },
+        Case {
+            name: "version before hold time",
+            bytes: &[0, 29, 1, 3, 0, 1, 0, 2, 0, 0, 0, 0, 0],
+            code: 2,
+            subcode: 1,
+            place: 19,
+            info: &[0, 4],
+        },
+        Case {
+            name: "hold time before identifier",
+            bytes: &[0, 29, 1, 4, 0, 1, 0, 2, 0, 0, 0, 0, 0],
+            code: 2,
+            subcode: 6,
+            place: 22,
+            info: &[],
+        },
+        Case {
+            name: "identifier before the size",
+            bytes: &[0, 29, 1, 4, 0, 1, 0, 90, 0, 0, 0, 0, 7],
+            code: 2,
+            subcode: 3,
+            place: 24,
+            info: &[],
+        },
+        Case {
+            name: "length before type",
+            bytes: &[0, 18, 9],
+            code: 1,
+            subcode: 2,
+            place: 16,
+            info: &[0, 18],
+        },
     ]
 }
 
@@ -91,8 +303,22 @@ fn each_refusal_is_told_in_every_cutting(rt: HostRuntime) -> Result<(), Fail> {
 
 #[test]
 fn a_byte_of_the_marker_is_refused_where_it_stands(rt: HostRuntime) {
-    let first = Case { name: "first", bytes: &[0], code: 1, subcode: 1, place: 0, info: &[] };
-    let last = Case { name: "last", bytes: &[0], code: 1, subcode: 1, place: 15, info: &[] };
+    let first = Case {
+        name: "first",
+        bytes: &[0],
+        code: 1,
+        subcode: 1,
+        place: 0,
+        info: &[],
+    };
+    let last = Case {
+        name: "last",
+        bytes: &[0],
+        code: 1,
+        subcode: 1,
+        place: 15,
+        info: &[],
+    };
     let mut marker = MARKER;
     marker[15] = 0xFE;
     expect_refused(&rt, rt.alloc(), &first, &[0xFE]);
@@ -113,7 +339,10 @@ fn an_open_is_read_and_written_again(rt: HostRuntime) -> Result<(), Fail> {
     let mut feed = BgpFeed::new(rt.alloc());
     feed.push(&OPEN)?;
     let message = feed.next().ok().flatten().ok_or("a whole OPEN")?;
-    assert_eq!(rt; encode_message(rt.alloc(), &message)?.as_slice(), OPEN.as_slice());
+    assert_eq!(rt;
+        encode_message(rt.alloc(), &message)?.as_slice(),
+        OPEN.as_slice()
+    );
     if let Message::Open(open) = &message {
         expect_open(&rt, open);
         return Ok(());
@@ -130,7 +359,8 @@ fn expect_open(rt: &impl Abort, open: &Open) {
 }
 
 const KEEPALIVE: [u8; 19] = [
-    0xFF, 0xFF, 0xFF, 0xFF, 0xFF, 0xFF, 0xFF, 0xFF, 0xFF, 0xFF, 0xFF, 0xFF, 0xFF, 0xFF, 0xFF, 0xFF, 0, 19, 4,
+    0xFF, 0xFF, 0xFF, 0xFF, 0xFF, 0xFF, 0xFF, 0xFF, 0xFF, 0xFF, 0xFF, 0xFF, 0xFF, 0xFF, 0xFF, 0xFF,
+    0, 19, 4,
 ];
 
 #[test]
@@ -174,7 +404,10 @@ fn other_messages_are_read_and_written_again(rt: HostRuntime) -> Result<(), Fail
         let mut feed = BgpFeed::new(rt.alloc());
         feed.push(&bytes)?;
         let message = feed.next().ok().flatten().ok_or("a whole message")?;
-        assert_eq!(rt; encode_message(rt.alloc(), &message)?.as_slice(), bytes.as_slice());
+        assert_eq!(rt;
+            encode_message(rt.alloc(), &message)?.as_slice(),
+            bytes.as_slice()
+        );
         assert!(rt; matches!(feed.next(), Ok(None)));
     }
     Ok(())

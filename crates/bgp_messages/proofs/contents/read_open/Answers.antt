@@ -1,5 +1,5 @@
 -- The fields that were read are those of the content's cells.
-use Rattle.std.proofs.Common.{◌≡◌, ℕ, ◌+◌, ◌*◌, ◌<◌, length, get_or, take, drop, sym, ap, ◌∙◌, inl, inr, arith}
+use Rattle.std.proofs.Common.{◌≡◌, ◌<◌, length, get_or, take, drop, sym, ap, ◌∙◌, inl, inr, arith}
 use Rattle.std.proofs.lemmas.List.{take_rest, get_or-drop}
 use Rattle.wire_base.specs.Numbers.{big_endian}
 use Rattle.bgp_messages.specs.Opens.{parameters_bytes}

@@ -1,5 +1,5 @@
 -- One parameter is no longer than all.
-use Rattle.std.proofs.Common.{ap, length, ◌∙◌, arith}
+use Rattle.std.proofs.Common.{arith}
 use Rattle.bgp_messages.specs.Opens.{parameter_bytes}
 use Rattle.bgp_messages.proofs.EncoderLemmas.{piece_le}
 use Rattle.bgp_messages.proofs.encoders.parameters_of.Goals as goal

@@ -1,9 +1,9 @@
 -- The step's answer, on the bytes behind the used ones.
-use Rattle.std.proofs.Common.{◌≡◌, ◌+◌, ◌<◌, ◌≤◌, ◌^◌, ℕ, List, length, drop, Some, None, Ok, Err, refl, sym, ap, ◌∙◌, arith}
+use Rattle.std.proofs.Common.{◌≡◌, ◌+◌, ℕ, drop, Some, None, Ok, Err, refl, sym, ap, ◌∙◌, arith}
 use Rattle.std.proofs.lemmas.List.{take_rest, length-drop}
 use Rattle.bgp_messages.specs.declared.feeds.NextFault.TheVariants as faults
 use Rattle.bgp_messages.specs.Kept.{refused}
-use Rattle.bgp_messages.specs.Refusals.{Told, told_in, moved, Refused, Held}
+use Rattle.bgp_messages.specs.Refusals.{Told, Refused, Held}
 use Rattle.bgp_messages.specs.Faults.{told_of}
 use Rattle.bgp_messages.specs.MessageSteps.{Begins}
 use Rattle.bgp_messages.specs.Halts.{stop_at, stop_of}
