@@ -2,7 +2,7 @@
 use Rattle.std.proofs.Common.{◌≡◌, ℕ, ◌+◌, ◌*◌, ◌<◌, ◌≤◌, List, [], ◌∷◌, length, get_or, take, drop, arith, sym, ◌∙◌, refl}
 use Rattle.std.proofs.lemmas.List.{length-drop, get_or-drop}
 use Rattle.std.proofs.lemmas.List.Elements.{All-get_or}
-use Rattle.wire_base.specs.Numbers.{AreBytes, Big}
+use Rattle.wire_base.specs.Numbers.{AreBytes, big_endian}
 use Rattle.nsh_headers.specs.declared.heads.NshHead.{NshHead}
 use Rattle.nsh_headers.specs.Head.{IsHead}
 use Rattle.nsh_headers.specs.Edit.{ttl_in}
@@ -27,16 +27,16 @@ cells (a ∷ b ∷ c ∷ d ∷ e ∷ f ∷ g ∷ []) long = absurd (omega arith)
 cells (a ∷ b ∷ c ∷ d ∷ e ∷ f ∷ g ∷ h ∷ rest) long = refl
 
 -- the numbers of 2 and of 3 bytes, by their bytes
-pub Big-two : (b : List ℕ) → 2 ≤ length b → Big (take 2 b) ≡ 256 * get_or b 0 0 + get_or b 1 0
-Big-two [] long = absurd (omega arith)
-Big-two (a ∷ []) long = absurd (omega arith)
-Big-two (a ∷ b ∷ rest) long = omega arith
+pub big_endian-two : (b : List ℕ) → 2 ≤ length b → big_endian (take 2 b) ≡ 256 * get_or b 0 0 + get_or b 1 0
+big_endian-two [] long = absurd (omega arith)
+big_endian-two (a ∷ []) long = absurd (omega arith)
+big_endian-two (a ∷ b ∷ rest) long = omega arith
 
-pub Big-three : (b : List ℕ) → 3 ≤ length b → Big (take 3 b) ≡ 65536 * get_or b 0 0 + 256 * get_or b 1 0 + get_or b 2 0
-Big-three [] long = absurd (omega arith)
-Big-three (a ∷ []) long = absurd (omega arith)
-Big-three (a ∷ b ∷ []) long = absurd (omega arith)
-Big-three (a ∷ b ∷ c ∷ rest) long = omega arith
+pub big_endian-three : (b : List ℕ) → 3 ≤ length b → big_endian (take 3 b) ≡ 65536 * get_or b 0 0 + 256 * get_or b 1 0 + get_or b 2 0
+big_endian-three [] long = absurd (omega arith)
+big_endian-three (a ∷ []) long = absurd (omega arith)
+big_endian-three (a ∷ b ∷ []) long = absurd (omega arith)
+big_endian-three (a ∷ b ∷ c ∷ rest) long = omega arith
 
 byte_at : (b : List ℕ) (i : ℕ) → AreBytes b → i < length b → get_or b i 0 < 256
 byte_at b i fits within = All-get_or (λ c. c < 256) b i 0 within fits
@@ -45,15 +45,15 @@ byte_at b i fits within = All-get_or (λ c. c < 256) b i 0 within fits
 spi-head : (b : List ℕ) (h : NshHead) → IsHead b h → h.path.spi ≡ 65536 * get_or b 4 0 + 256 * get_or b 5 0 + get_or b 6 0
 spi-head b h spelled =
     let long : 3 ≤ length (drop 4 b) = omega (arith, length-drop 4 b, spelled.long) in
-    sym spelled.spi ∙ Big-three (drop 4 b) long ∙ omega (arith, get_or-drop 4 b 0 0, get_or-drop 4 b 1 0, get_or-drop 4 b 2 0)
+    sym spelled.spi ∙ big_endian-three (drop 4 b) long ∙ omega (arith, get_or-drop 4 b 0 0, get_or-drop 4 b 1 0, get_or-drop 4 b 2 0)
 
 -- a head has one spelling
 pub same_front : (a b : List ℕ) (h : NshHead) → AreBytes a → AreBytes b → IsHead a h → IsHead b h → take 8 a ≡ take 8 b
 same_front a b h fits_a fits_b in_a in_b =
     let long_a = in_a.long in
     let long_b = in_b.long in
-    let word_a = Big-two a (omega arith) ∙ refl in
-    let word_b = Big-two b (omega arith) ∙ refl in
+    let word_a = big_endian-two a (omega arith) ∙ refl in
+    let word_b = big_endian-two b (omega arith) ∙ refl in
     let spi_a = spi-head a h in_a in
     let spi_b = spi-head b h in_b in
     let low_a = byte_at a 1 fits_a (omega arith) in
@@ -62,7 +62,7 @@ same_front a b h fits_a fits_b in_a in_b =
     let mid_b = byte_at b 5 fits_b (omega arith) in
     let end_a = byte_at a 6 fits_a (omega arith) in
     let end_b = byte_at b 6 fits_b (omega arith) in
-    let word : Big (take 2 a) ≡ Big (take 2 b) = in_a.first_word ∙ sym in_b.first_word in
+    let word : big_endian (take 2 a) ≡ big_endian (take 2 b) = in_a.first_word ∙ sym in_b.first_word in
     let e0 : get_or a 0 0 ≡ get_or b 0 0 = omega arith in
     let e1 : get_or a 1 0 ≡ get_or b 1 0 = omega arith in
     let e2 : get_or a 2 0 ≡ get_or b 2 0 = in_a.third ∙ sym in_b.third in

@@ -1,6 +1,6 @@
 -- Edits of a header where it lies.
 use Rattle.std.specs.Prelude.{◌≡◌, ℕ, ◌-◌, ◌/◌, ◌%◌, ◌==◌, if◌then◌else◌, List, take, drop}
-use Rattle.wire_base.specs.Numbers.{Big}
+use Rattle.wire_base.specs.Numbers.{big_endian}
 use Rattle.nsh_headers.specs.declared.heads.NshHead.{NshHead}
 
 -- the TTL after one hop: one less, and 63 after 0 (RFC 8300, section 2.2)
@@ -9,13 +9,13 @@ lowered ttl = if ttl == 0 then 63 else ttl - 1
 
 -- the 6 bits of the TTL, of a header or not
 abbrev pub ttl_in : List ℕ → ℕ
-ttl_in b = Big (take 2 b) / 64 % 64
+ttl_in b = big_endian (take 2 b) / 64 % 64
 
 -- The TTL is the given one; the 4 bits above it, the 6 below it and all other bytes stay.
 pub record TtlBecomes (old new : List ℕ) (ttl : ℕ) : Type 0 where
   pub field : ttl_in new ≡ ttl
-  pub above : Big (take 2 new) / 4096 ≡ Big (take 2 old) / 4096
-  pub below : Big (take 2 new) % 64 ≡ Big (take 2 old) % 64
+  pub above : big_endian (take 2 new) / 4096 ≡ big_endian (take 2 old) / 4096
+  pub below : big_endian (take 2 new) % 64 ≡ big_endian (take 2 old) % 64
   pub behind : drop 2 new ≡ drop 2 old
 
 -- the head with another TTL, and with another SI

@@ -1,6 +1,6 @@
 -- The first 8 bytes of a Network Service Header (RFC 8300, sections 2.2 and 2.3), by numbers.
 use Rattle.std.specs.Prelude.{◌≡◌, ℕ, ◌+◌, ◌*◌, ◌<◌, ◌≤◌, ◌⊎◌, Bool, true, false, List, length, take, drop, slice_index}
-use Rattle.wire_base.specs.Numbers.{Big}
+use Rattle.wire_base.specs.Numbers.{big_endian}
 use Rattle.nsh_headers.specs.declared.heads.NshHead.{NshHead}
 
 -- a bit as a number
@@ -20,10 +20,10 @@ pub record HeadFits (h : NshHead) : Type 0 where
 -- bytes of SPI and one of SI.
 pub record IsHead (b : List ℕ) (h : NshHead) : Type 0 where
   pub long : 8 ≤ length b
-  pub first_word : Big (take 2 b) ≡ 8192 * bit h.base.oam + 4096 * bit h.base.spare1 + 64 * h.base.ttl + h.base.words
+  pub first_word : big_endian (take 2 b) ≡ 8192 * bit h.base.oam + 4096 * bit h.base.spare1 + 64 * h.base.ttl + h.base.words
   pub third : slice_index b 2 ≡ 16 * h.base.spare4 + h.base.md
   pub next : slice_index b 3 ≡ h.base.next
-  pub spi : Big (take 3 (drop 4 b)) ≡ h.path.spi
+  pub spi : big_endian (take 3 (drop 4 b)) ≡ h.path.spi
   pub si : slice_index b 7 ≡ h.path.si
   pub fits : HeadFits h
 

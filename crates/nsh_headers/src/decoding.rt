@@ -1,7 +1,7 @@
 //! Reading a head.
 
 ghost use Rattle.std.specs.Prelude.{◌≡◌, ◌+◌, ◌*◌, ◌/◌, ◌%◌, ◌^◌, ◌<◌, ◌≤◌, length, take, slice_index, IfOk, IfErr, IfNone, MatchOption, Ok, Err};
-ghost use Rattle.wire_base.specs.Numbers.{Big};
+ghost use Rattle.wire_base.specs.Numbers.{big_endian};
 ghost use Rattle.nsh_headers.specs.declared.heads.NshHead.{NshHead};
 ghost use Rattle.nsh_headers.specs.declared.faults.NshFault.{NshFault};
 ghost use Rattle.nsh_headers.specs.Head.{IsHead, IsSized, bit};

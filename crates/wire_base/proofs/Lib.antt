@@ -1,2 +1,2 @@
 -- What the crates above cite of numbers in bytes.
-pub mod BigLemmas
+pub mod BigEndianLemmas

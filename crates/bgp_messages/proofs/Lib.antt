@@ -1,0 +1,10 @@
+pub mod ContentLemmas
+pub mod HeaderLemmas
+pub mod RefusalLemmas
+pub mod FeedLemmas
+pub mod EncoderLemmas
+pub mod OpenLemmas
+pub mod SplitLemmas
+pub mod ContentReadings
+pub mod MessageReadings
+pub mod StreamLemmas

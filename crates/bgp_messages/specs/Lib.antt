@@ -1,0 +1,13 @@
+pub mod Opens
+pub mod Messages
+pub mod Headers
+pub mod Refusals
+pub mod Kept
+pub mod Faults
+pub mod HeadSteps
+pub mod Items
+pub mod Contents
+pub mod MessageSteps
+pub mod Halts
+pub mod Calls
+pub mod Streams

@@ -1,0 +1,30 @@
+//! Tables of inputs with the answer that each decoder has to give, for tests of any decoder.
+//!
+//! A table is a list of named inputs, each with what a decoder of its format answers:
+//!
+//! ```text
+//!  "an MD Type of 15"   0F C6 0F   -->   Nsh(MdType(15))
+//! ```
+//!
+//! What users take:
+//!
+//! - `nsh_cases` has each refusal of a Network Service Header (RFC 8300), at the first byte that shows it and
+//!   with all bytes behind it, at its first and its last possible place, and headers that are accepted.
+//!
+//! The expected answers are written by hand from the formats, and not taken from a decoder. The crate's own
+//! tests run each table through this project's decoders, whole and in every cutting into two pieces.
+//!
+//! ```text
+//! for case in &nsh_cases().cases {
+//!     assert_eq!(my_decoder(case.input), case.answer);
+//! }
+//! ```
+#![tactic(auto)]
+
+mod cases;
+mod nsh;
+#[cfg(test)]
+mod tests;
+
+pub use cases::{Case, Cases, Expected};
+pub use nsh::nsh_cases;

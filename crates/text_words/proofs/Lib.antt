@@ -1,0 +1,6 @@
+pub mod PieceLemmas
+pub mod LineLemmas
+pub mod NumberLemmas
+pub mod HexLemmas
+pub mod DottedLemmas
+pub mod NameLemmas
