@@ -1,0 +1,6 @@
+pub mod ItemLemmas
+pub mod SplitLemmas
+pub mod HeaderLemmas
+pub mod ReadingLemmas
+pub mod EncodingLemmas
+pub mod FeedLemmas

@@ -1,0 +1,14 @@
+use crate::contexts::Context;
+use crate::feeds::NshFeed;
+use crate::headers::Nsh;
+use crate::items::ItemList;
+
+fn crosses<T: Send + Sync + Drop>() {}
+
+/// Shows that the types of this crate may be handed to and shared with threads, as soon as it compiles.
+pub fn types_cross_threads() {
+    crosses::<ItemList>();
+    crosses::<Context>();
+    crosses::<Nsh>();
+    crosses::<NshFeed>();
+}
