@@ -1,0 +1,9 @@
+use super::*;
+
+#[test]
+fn three_functions_are_on_metadata(rt: HostRuntime) {
+    assert!(rt; Function::ClearMeta.is_on_metadata());
+    assert!(rt; Function::RequireMeta { class: 1, kind: 2 }.is_on_metadata());
+    assert!(rt; !Function::Pass.is_on_metadata());
+    assert!(rt; !Function::PopVlan.is_on_metadata());
+}
