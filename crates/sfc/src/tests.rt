@@ -42,9 +42,19 @@ fn words_of(alloc: Global, line: &str) -> Result<Words, OutOfMemory> {
 #[test]
 fn two_and_sixty_one_passes_leave_the_frame(rt: HostRuntime) -> Result<(), Fail> {
     let capture = one_frame(rt.alloc())?;
-    for line in ["walk 42 2 K out", "walk 42 61 K out", "walk 0 1 K out", "walk 16777215 61 K out"] {
+    for line in [
+        "walk 42 2 K out",
+        "walk 42 61 K out",
+        "walk 0 1 K out",
+        "walk 16777215 61 K out",
+    ] {
         let mut desk = desk_of(rt.alloc(), &capture, &[])?;
-        let status = sfc_call(rt.alloc(), &words_of(rt.alloc(), line)?, &mut desk, &OpenGate);
+        let status = sfc_call(
+            rt.alloc(),
+            &words_of(rt.alloc(), line)?,
+            &mut desk,
+            &OpenGate,
+        );
         assert_eq!(rt; status, Status::Ok, "{line}");
         assert_eq!(rt; desk.output(Port::Egress), capture.as_slice(), "{line}");
     }
@@ -56,7 +66,12 @@ fn sixty_two_passes_run_out_of_ttl(rt: HostRuntime) -> Result<(), Fail> {
     let capture = one_frame(rt.alloc())?;
     for line in ["walk 42 62 K out", "walk 42 255 K out"] {
         let mut desk = desk_of(rt.alloc(), &capture, &[])?;
-        let status = sfc_call(rt.alloc(), &words_of(rt.alloc(), line)?, &mut desk, &OpenGate);
+        let status = sfc_call(
+            rt.alloc(),
+            &words_of(rt.alloc(), line)?,
+            &mut desk,
+            &OpenGate,
+        );
         assert_eq!(rt; status, Status::Ok, "{line}");
         assert_eq!(rt; desk.output(Port::Egress), HEAD.as_slice(), "{line}");
     }
@@ -79,7 +94,12 @@ fn refuses_words_outside_the_grammar(rt: HostRuntime) -> Result<(), Fail> {
     ] {
         // both binds would succeed, and no call is made
         let mut desk = desk_of(rt.alloc(), &capture, &[0])?;
-        let status = sfc_call(rt.alloc(), &words_of(rt.alloc(), line)?, &mut desk, &OpenGate);
+        let status = sfc_call(
+            rt.alloc(),
+            &words_of(rt.alloc(), line)?,
+            &mut desk,
+            &OpenGate,
+        );
         assert_eq!(rt; status, Status::Words, "{line}");
         assert_eq!(rt; status_line(&status).as_str(), "words");
     }
@@ -105,7 +125,10 @@ fn a_failing_read_is_told_and_leaves_the_egress_empty(rt: HostRuntime) -> Result
         assert_eq!(rt; desk.output(Port::Egress).len(), length, "call {call}");
     }
     let file = Status::File(Port::Capture);
-    assert_eq!(rt; (file.number(), status_line(&file).as_str() == "file capture"), (3, true));
+    assert_eq!(rt;
+        (file.number(), status_line(&file).as_str() == "file capture"),
+        (3, true)
+    );
     Ok(())
 }
 

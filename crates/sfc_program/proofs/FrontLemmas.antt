@@ -9,12 +9,12 @@ front_of_more xs ys more whole is front = (front.0 ++ more, sym (append_assoc xs
 -- what was taken and waits, and then a part of what is to come
 pub front_of_part : (taken written waiting part behind rest whole : List ℕ) → (written ++ waiting) ++ rest ≡ whole → part ++ behind ≡ rest → IsFront taken (written ++ (waiting ++ part)) → IsFront taken whole
 front_of_part taken written waiting part behind rest whole is parts front =
-  front_of_more taken (written ++ (waiting ++ part)) behind whole (ap (λ zs. zs ++ behind) (sym (append_assoc written waiting part)) ∙ (append_assoc (written ++ waiting) part behind ∙ (ap (λ zs. (written ++ waiting) ++ zs) parts ∙ is))) front
+    front_of_more taken (written ++ (waiting ++ part)) behind whole (ap (λ zs. zs ++ behind) (sym (append_assoc written waiting part)) ∙ (append_assoc (written ++ waiting) part behind ∙ (ap (λ zs. (written ++ waiting) ++ zs) parts ∙ is))) front
 
 -- a front of a part, where a part and more are the whole
 pub front_before : (taken before part more all whole : List ℕ) → part ++ more ≡ all → before ++ all ≡ whole → IsFront taken (before ++ part) → IsFront taken whole
 front_before taken before part more all whole parts is front =
-  front_of_more taken (before ++ part) more whole (append_assoc before part more ∙ (ap (λ zs. before ++ zs) parts ∙ is)) front
+    front_of_more taken (before ++ part) more whole (append_assoc before part more ∙ (ap (λ zs. before ++ zs) parts ∙ is)) front
 
 -- a front of what is the whole
 pub front_of_same : (taken part whole : List ℕ) → part ≡ whole → IsFront taken part → IsFront taken whole
@@ -23,4 +23,4 @@ front_of_same taken part whole is front = (front.0, front.1 ∙ is)
 -- a head behind what was taken, and the packets behind it
 pub head_and_packets : (start taken waiting head packets : List ℕ) → start ≡ (taken ++ waiting) ++ head → waiting ≡ [] → start ++ packets ≡ taken ++ (head ++ packets)
 head_and_packets start taken waiting head packets is nothing =
-  ap (λ zs. zs ++ packets) is ∙ (append_assoc (taken ++ waiting) head packets ∙ ap (λ zs. zs ++ (head ++ packets)) (ap (λ w. taken ++ w) nothing ∙ append-nil taken))
+    ap (λ zs. zs ++ packets) is ∙ (append_assoc (taken ++ waiting) head packets ∙ ap (λ zs. zs ++ (head ++ packets)) (ap (λ w. taken ++ w) nothing ∙ append-nil taken))

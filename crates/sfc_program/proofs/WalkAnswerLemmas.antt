@@ -24,15 +24,15 @@ one_file found a b is_a is_b = cc
 -- a file within the limit is no longer than it
 within_is_not_long : (walk : Walk) (held : Files) (input : List ℕ) → HasInput walk held input → HasLong walk held → ⊥
 within_is_not_long walk held input has long =
-  let same : input ≡ long.input = one_file (held walk.capture) input long.input has.there long.there in
-  let past : capture_limit < length input = subst (λ (b : List ℕ). capture_limit < length b) (sym same) long.past in
-  omega (arith, past, has.within)
+    let same : input ≡ long.input = one_file (held walk.capture) input long.input has.there long.there in
+    let past : capture_limit < length input = subst (λ (b : List ℕ). capture_limit < length b) (sym same) long.past in
+    omega (arith, past, has.within)
 
 -- a capture is not refused
 captured_is_not_refused : (walk : Walk) (held : Files) (a b : List ℕ) → HasInput walk held a → HasInput walk held b → ((frames : _) × IsCapture a plain_form frames) → IsNoCapture b → ⊥
 captured_is_not_refused walk held a b has_a has_b is none =
-  let same : a ≡ b = one_file (held walk.capture) a b has_a.there has_b.there in
-  none is.0 (subst (λ (bytes : List ℕ). IsCapture bytes plain_form is.0) same is.1)
+    let same : a ≡ b = one_file (held walk.capture) a b has_a.there has_b.there in
+    none is.0 (subst (λ (bytes : List ℕ). IsCapture bytes plain_form is.0) same is.1)
 
 -- of the walk's ports the capture alone is an input
 input_is_capture : (walk : Walk) (port : Port) (name : List ℕ) → walk_names walk port ≡ Some name → is_input port ≡ true → (port ≡ ports.Capture) × (name ≡ walk.capture)
@@ -52,54 +52,55 @@ input_is_capture walk ports.Report name named in' = cc
 -- where no count rose, a file fault is an absent capture
 absent_capture : (walk : Walk) (tells : Bool) (held : Files) (then now : Port → Shown) (port : Port) → FailsAs (walk_names walk) tells held then now port → NoneRose then now → (port ≡ ports.Capture) × (held walk.capture ≡ None)
 absent_capture walk tells held then now port fails none =
-  elim fails.cause [
-    inl absent ↦
-      (let is = input_is_capture walk port fails.name fails.named absent.input in
-       (is.0, subst (λ (name : List ℕ). held name ≡ None) is.1 absent.none))
-  | inr rose ↦ absurd (none port rose) ]
+    elim fails.cause [
+      | inl absent ↦
+          (let is = input_is_capture walk port fails.name fails.named absent.input in
+          (is.0, subst (λ (name : List ℕ). held name ≡ None) is.1 absent.none))
+      | inr rose ↦ absurd (none port rose)
+    ]
 
 -- what the files ask for is the answer
 pub asked_is_answered : (walk : Walk) (tells : Bool) (held : Files) (then now : Port → Shown) (answer wanted : Status) → WalkRuns walk tells held then now answer → WalkWants walk held wanted → tells ≡ true → NoneRose then now → answer ≢ Memory → answer ≡ wanted
 asked_is_answered walk tells held then now Ok Ok runs wants told none some = refl
 asked_is_answered walk tells held then now Ok (Capture place reason) runs wants told none some =
-  let done = runs told in
-  absurd (captured_is_not_refused walk held done.input wants.1.0 done.has wants.1.1 (done.done.frames, done.done.is_capture) wants.1.2)
+    let done = runs told in
+    absurd (captured_is_not_refused walk held done.input wants.1.0 done.has wants.1.1 (done.done.frames, done.done.is_capture) wants.1.2)
 asked_is_answered walk tells held then now Ok (Long port) runs wants told none some =
-  let done = runs told in absurd (within_is_not_long walk held done.input done.has wants.1)
+    let done = runs told in absurd (within_is_not_long walk held done.input done.has wants.1)
 asked_is_answered walk tells held then now Ok (File port) runs wants told none some =
-  let there = (runs told).has.there in let absent = wants.1 in cc
+    let there = (runs told).has.there in let absent = wants.1 in cc
 asked_is_answered walk tells held then now Ok Words runs wants told none some = absurd wants
 asked_is_answered walk tells held then now Ok Memory runs wants told none some = absurd wants
 asked_is_answered walk tells held then now Words wanted runs wants told none some = absurd runs
 asked_is_answered walk tells held then now Memory wanted runs wants told none some = absurd (some refl)
 asked_is_answered walk tells held then now (File port) Ok runs wants told none some =
-  let absent = (absent_capture walk tells held then now port runs.0 none).1 in let there = wants.1.there in cc
+    let absent = (absent_capture walk tells held then now port runs.0 none).1 in let there = wants.1.there in cc
 asked_is_answered walk tells held then now (File port) (Capture place reason) runs wants told none some =
-  let absent = (absent_capture walk tells held then now port runs.0 none).1 in let there = wants.1.1.there in cc
+    let absent = (absent_capture walk tells held then now port runs.0 none).1 in let there = wants.1.1.there in cc
 asked_is_answered walk tells held then now (File port) (Long other) runs wants told none some =
-  let absent = (absent_capture walk tells held then now port runs.0 none).1 in let there = wants.1.there in cc
+    let absent = (absent_capture walk tells held then now port runs.0 none).1 in let there = wants.1.there in cc
 asked_is_answered walk tells held then now (File port) (File other) runs wants told none some =
-  ap File ((absent_capture walk tells held then now port runs.0 none).0 ∙ sym wants.0)
+    ap File ((absent_capture walk tells held then now port runs.0 none).0 ∙ sym wants.0)
 asked_is_answered walk tells held then now (File port) Words runs wants told none some = absurd wants
 asked_is_answered walk tells held then now (File port) Memory runs wants told none some = absurd wants
 asked_is_answered walk tells held then now (Capture place reason) Ok runs wants told none some =
-  let refused = runs.1 told in
-  absurd (captured_is_not_refused walk held wants.0 refused.input wants.1 refused.has wants.2 refused.refused)
+    let refused = runs.1 told in
+    absurd (captured_is_not_refused walk held wants.0 refused.input wants.1 refused.has wants.2 refused.refused)
 asked_is_answered walk tells held then now (Capture place reason) (Capture other why) runs wants told none some =
-  ap (λ p. Capture p reason) (runs.0 ∙ sym wants.0) ∙ ap (λ r. Capture other r) (one_reason reason why)
+    ap (λ p. Capture p reason) (runs.0 ∙ sym wants.0) ∙ ap (λ r. Capture other r) (one_reason reason why)
 asked_is_answered walk tells held then now (Capture place reason) (Long port) runs wants told none some =
-  let refused = runs.1 told in absurd (within_is_not_long walk held refused.input refused.has wants.1)
+    let refused = runs.1 told in absurd (within_is_not_long walk held refused.input refused.has wants.1)
 asked_is_answered walk tells held then now (Capture place reason) (File port) runs wants told none some =
-  let there = (runs.1 told).has.there in let absent = wants.1 in cc
+    let there = (runs.1 told).has.there in let absent = wants.1 in cc
 asked_is_answered walk tells held then now (Capture place reason) Words runs wants told none some = absurd wants
 asked_is_answered walk tells held then now (Capture place reason) Memory runs wants told none some = absurd wants
 asked_is_answered walk tells held then now (Long port) Ok runs wants told none some =
-  absurd (within_is_not_long walk held wants.0 wants.1 (runs.1 told).has)
+    absurd (within_is_not_long walk held wants.0 wants.1 (runs.1 told).has)
 asked_is_answered walk tells held then now (Long port) (Capture place reason) runs wants told none some =
-  absurd (within_is_not_long walk held wants.1.0 wants.1.1 (runs.1 told).has)
+    absurd (within_is_not_long walk held wants.1.0 wants.1.1 (runs.1 told).has)
 asked_is_answered walk tells held then now (Long port) (Long other) runs wants told none some = ap Long (runs.0 ∙ sym wants.0)
 asked_is_answered walk tells held then now (Long port) (File other) runs wants told none some =
-  let there = (runs.1 told).has.there in let absent = wants.1 in cc
+    let there = (runs.1 told).has.there in let absent = wants.1 in cc
 asked_is_answered walk tells held then now (Long port) Words runs wants told none some = absurd wants
 asked_is_answered walk tells held then now (Long port) Memory runs wants told none some = absurd wants
 
@@ -111,17 +112,17 @@ walk_with spi count capture egress = record { spi = spi; count = count; capture 
 pub one_walk : (words : List (List ℕ)) (a b : Walk) → IsWalk words a → IsWalk words b → a ≡ b
 unfolding walk_with
 one_walk words a b is_a is_b =
-  let same : codes "walk" ∷ decimal a.spi ∷ decimal a.count ∷ a.capture ∷ a.egress ∷ [] ≡ codes "walk" ∷ decimal b.spi ∷ decimal b.count ∷ b.capture ∷ b.egress ∷ [] = sym is_a.spelled ∙ is_b.spelled in
-  let spi_text : decimal a.spi ≡ decimal b.spi = cc in
-  let count_text : decimal a.count ≡ decimal b.count = cc in
-  let spi : a.spi ≡ b.spi = decimal_injective a.spi b.spi (omega (arith, is_a.spi_range)) (omega (arith, is_b.spi_range)) spi_text in
-  let count : a.count ≡ b.count = decimal_injective a.count b.count (omega (arith, is_a.most)) (omega (arith, is_b.most)) count_text in
-  let capture : a.capture ≡ b.capture = cc in
-  let egress : a.egress ≡ b.egress = cc in
-  ap (λ n. walk_with n a.count a.capture a.egress) spi
-  ∙ (ap (λ n. walk_with b.spi n a.capture a.egress) count
-  ∙ (ap (λ name. walk_with b.spi b.count name a.egress) capture
-  ∙ ap (λ name. walk_with b.spi b.count b.capture name) egress))
+    let same : codes "walk" ∷ decimal a.spi ∷ decimal a.count ∷ a.capture ∷ a.egress ∷ [] ≡ codes "walk" ∷ decimal b.spi ∷ decimal b.count ∷ b.capture ∷ b.egress ∷ [] = sym is_a.spelled ∙ is_b.spelled in
+    let spi_text : decimal a.spi ≡ decimal b.spi = cc in
+    let count_text : decimal a.count ≡ decimal b.count = cc in
+    let spi : a.spi ≡ b.spi = decimal_injective a.spi b.spi (omega (arith, is_a.spi_range)) (omega (arith, is_b.spi_range)) spi_text in
+    let count : a.count ≡ b.count = decimal_injective a.count b.count (omega (arith, is_a.most)) (omega (arith, is_b.most)) count_text in
+    let capture : a.capture ≡ b.capture = cc in
+    let egress : a.egress ≡ b.egress = cc in
+    ap (λ n. walk_with n a.count a.capture a.egress) spi
+    ∙ (ap (λ n. walk_with b.spi n a.capture a.egress) count
+    ∙ (ap (λ name. walk_with b.spi b.count name a.egress) capture
+    ∙ ap (λ name. walk_with b.spi b.count b.capture name) egress))
 
 -- an answer to a walk's words is no refusal of the words
 pub served : (walk : Walk) (tells : Bool) (held : Files) (then now : Port → Shown) (answer : Status) → WalkRuns walk tells held then now answer → answer ≡ Words → ⊥

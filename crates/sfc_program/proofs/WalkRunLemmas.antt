@@ -30,7 +30,7 @@ on_ok_so P Q (Err e) f p = p
 -- the ends of the path's walks are those of the words'
 walked_so : (walk : Walk) (path : StaticPath) (frames : List Captured) (ends : List End) → walk.spi ≡ path.spi → walk.count ≡ path.count → EndsOf path frames ends → WalksOf walk frames ends
 walked_so walk path frames ends spi count walked =
-  subst (λ (n : ℕ). AllZip (λ frame end. WalksTo n walk.count frame.bytes end) frames ends) (sym spi)
+    subst (λ (n : ℕ). AllZip (λ frame end. WalksTo n walk.count frame.bytes end) frames ends) (sym spi)
     (subst (λ (n : ℕ). AllZip (λ frame end. WalksTo path.spi n frame.bytes end) frames ends) (sym count) walked)
 
 -- what is written behind nothing
@@ -67,7 +67,7 @@ finished walk held path input frames then mid read now ends was whole kept same 
 pub fronted : (walk : Walk) (held : Files) (path : StaticPath) (input : List ℕ) (frames : List Captured) (then mid now : Shown) → Walked walk held path input frames → mid ≡ then → then.written ≡ [] → ((now ≡ mid) ⊎ ((ends : List End) × EndsOf path frames ends × IsFront now.written (mid.written ++ egress_of plain_form frames ends))) → HoldsFront walk held then now
 fronted walk held path input frames then mid now was same nothing (inl kept) = empty (ap (λ s. s.written) (kept ∙ same) ∙ nothing)
 fronted walk held path input frames then mid now was same nothing (inr wrote) =
-  front input (egress_of plain_form frames wrote.0) (record { there = was.there; within = was.within })
+    front input (egress_of plain_form frames wrote.0) (record { there = was.there; within = was.within })
     (done walk held path input frames wrote.0 (egress_of plain_form frames wrote.0) was wrote.1 refl)
     (front_of_same now.written _ _ (behind_nothing then mid now (egress_of plain_form frames wrote.0) same nothing) wrote.2)
 
@@ -107,7 +107,7 @@ pub runs_since : (walk : Walk) (tells : Bool) (held : Files) (then mid now : Por
 runs_since walk tells held then mid now status.Ok c e nothing runs = runs
 runs_since walk tells held then mid now status.Words c e nothing runs = runs
 runs_since walk tells held then mid now (status.File port) c e nothing runs =
-  (fails_since walk tells held then mid now port c e runs.0, λ told. front_since walk held (then Egress) (mid Egress) (now Egress) (nothing told) (runs.1 told))
+    (fails_since walk tells held then mid now port c e runs.0, λ told. front_since walk held (then Egress) (mid Egress) (now Egress) (nothing told) (runs.1 told))
 runs_since walk tells held then mid now (status.Capture place reason) c e nothing runs = runs
 runs_since walk tells held then mid now status.Memory c e nothing runs = λ told. front_since walk held (then Egress) (mid Egress) (now Egress) (nothing told) (runs told)
 runs_since walk tells held then mid now (status.Long port) c e nothing runs = runs

@@ -32,11 +32,7 @@ const PLAIN: Form = Form {
 };
 
 /// How the walk of each frame ends.
-fn ends_of(
-    alloc: Global,
-    path: &StaticPath,
-    frames: &[Captured],
-) -> Result<List<End>, OutOfMemory>
+fn ends_of(alloc: Global, path: &StaticPath, frames: &[Captured]) -> Result<List<End>, OutOfMemory>
     ensures { IfOk result (λ ends. EndsOf path.now frames.now ends) }
 {
     let mut ends = List::new(alloc);

@@ -96,11 +96,7 @@ pub(crate) fn finish<D: Desk>(
 }
 
 /// Writes what the buffer holds where it is full.
-fn finish_full<D: Desk>(
-    desk: &mut D,
-    port: Port,
-    buffer: &mut Vec<u8>,
-) -> Result<(), WriteFault>
+fn finish_full<D: Desk>(desk: &mut D, port: Port, buffer: &mut Vec<u8>) -> Result<(), WriteFault>
     requires bound { (D.at desk.old port).bound ≡ true }
     requires output { is_input port ≡ false }
     requires small { length buffer.old.items ≤ PIECE }

@@ -135,5 +135,4 @@ pub fn octets_are_bytes<const N: usize>(octets: &Fixed<N>)
 /// The bytes of a slice are below 256.
 fn are_bytes(bytes: &[u8])
     ensures { AreBytes bytes.now }
-{
-}
+{}

@@ -36,8 +36,8 @@ mod tests;
 
 pub use addresses::{address_has_bytes, print_address, print_dotted, read_address, read_dotted};
 pub use hexadecimals::{
-    octets_are_bytes, print_four_digits, print_octets, print_octets_or_dash, read_four_digits, read_octets,
-    read_octets_or_dash,
+    octets_are_bytes, print_four_digits, print_octets, print_octets_or_dash, read_four_digits,
+    read_octets, read_octets_or_dash,
 };
 pub use line_cursor::TextLines;
 pub use name_text::Name;
