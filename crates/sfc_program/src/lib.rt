@@ -36,6 +36,8 @@ mod gates;
 mod laws;
 mod paths;
 mod reading;
+#[cfg(test)]
+mod reading_tests;
 mod sfc_calls;
 mod slow_walks;
 mod statuses;
