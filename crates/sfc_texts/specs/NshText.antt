@@ -22,7 +22,7 @@ field label n = label ++ decimal n
 abbrev pub line_end : List ℕ
 line_end = 10 ∷ []
 
--- a Next Protocol by its name, and one without a name by its number (RFC 8300, sections 2.2 and 9.1.7)
+-- a Next Protocol by its name, and one without a name by its number (RFC 8300, section 2.2)
 abbrev pub protocol_text : ℕ → List ℕ
 protocol_text n =
     if n == 1 then codes "ipv4"
