@@ -53,3 +53,18 @@ AttributesGive start bytes (Err fault) = Tells (λ place. RefusedAttributes star
 abbrev pub UpdateGives : List ℕ → Result Update UpdateFault → Type 0
 UpdateGives bytes (Ok u) = IsUpdate bytes u
 UpdateGives bytes (Err fault) = Tells (λ place. Refused bytes place) fault
+
+-- the update is answered, unless there was no memory
+abbrev pub GivesThe : Update → Result Update UpdateFault → Type 0
+GivesThe u (Ok given) = given ≡ u
+GivesThe u (Err fault) = Tells (λ place. ⊥) fault
+
+-- the refusal at the place is answered, unless there was no memory
+abbrev pub TellsThe : ℕ → Result Update UpdateFault → Type 0
+TellsThe place (Ok given) = ⊥
+TellsThe place (Err fault) = Tells (λ told. told ≡ place) fault
+
+-- the answer that the bytes ask for, unless there was no memory
+pub record Exact (bytes : List ℕ) (result : Result Update UpdateFault) : Type 0 where
+  pub update : (u : Update) → IsUpdate bytes u → GivesThe u result
+  pub refusal : (place : ℕ) → Refused bytes place → TellsThe place result

@@ -1,7 +1,10 @@
 -- Updates and their one spelling (RFC 4271, section 4.3).
-use Rattle.std.specs.Prelude.{◌≡◌, ℕ, ◌^◌, ◌==◌, ◌<◌, ◌≤◌, List, ◌++◌, length, count_by}
+use Rattle.std.specs.Prelude.{◌≡◌, ℕ, ◌^◌, ◌==◌, ◌<◌, ◌≤◌, Bool, true, false, List, ◌++◌, length, count_by, find}
 use Rattle.std.specs.List.{AllByRecursion}
+use Rattle.std.specs.Option.{option_map_or}
 use Rattle.bgp_update.specs.declared.attributes.Attribute.{Attribute}
+use Rattle.bgp_update.specs.declared.attributes.Body.{Body}
+use Rattle.bgp_update.specs.declared.attributes.Body.TheVariants as bodies
 use Rattle.bgp_update.specs.declared.updates.Update.{Update}
 use Rattle.bgp_update.specs.Nlris.{two}
 use Rattle.bgp_update.specs.Attributes.{attributes_bytes, AttributeFits}
@@ -30,3 +33,13 @@ pub record UpdateFits (u : Update) : Type 0 where
 pub record IsUpdate (bytes : List ℕ) (u : Update) : Type 0 where
   pub spelled : bytes ≡ update_bytes u
   pub fits : UpdateFits u
+
+abbrev pub is_raw : Body → Bool
+is_raw (bodies.Reach r) = false
+is_raw (bodies.Unreach u) = false
+is_raw (bodies.Communities cs) = false
+is_raw (bodies.Raw bytes) = true
+
+-- there is an attribute of kind 16, and the first of them is kept unread
+abbrev pub is_broken : Update → Bool
+is_broken u = option_map_or (λ (a : Attribute). is_raw a.body) (find (λ (a : Attribute). a.kind == 16) u.attributes) false

@@ -2,7 +2,7 @@ ghost use Rattle.std.specs.Prelude.{◌≡◌, ◌<◌, ◌+◌, ◌^◌, length
 ghost use Rattle.bgp_update.specs.Attributes.{IsReachability};
 ghost use Rattle.bgp_update.specs.Updates.{count_of};
 ghost use Rattle.bgp_update.specs.Refusals.{Repeats, OpensNot, Opens};
-ghost use Rattle.bgp_update.specs.Steps.{AttributesGive, UpdateGives};
+ghost use Rattle.bgp_update.specs.Steps.{AttributesGive, UpdateGives, Exact};
 
 use crate::attributes::Attribute;
 use crate::bodies::{MP_REACH, MP_UNREACH, read_body};
@@ -92,21 +92,8 @@ fn opening_of(content: &[u8]) -> Option<Opening<'_>>
     })
 }
 
-/// Reads the content of an UPDATE (RFC 4271, section 4.3), which is behind the message header.
-///
-/// ```text
-///  withdrawn length 2 | withdrawn | attribute length 2 | attributes | NLRI
-///  attribute: flags 1 | kind 1 | length 1 or 2 | value
-///  route of the service function family: type 2 | length 2 | body
-/// ```
-///
-/// What is refused, in this order: the withdrawn routes run past the content (told at 0); the attributes do (told at their
-/// length); then for one attribute after the other: it runs past the list, it is a second of kind 14 or 15, one of these
-/// kinds has no family, the head of kind 14 is not all there (each told at the attribute), or one of its routes is not whole
-/// or has not the length of its type (told at the route). Each ends the session with code 3, subcode 1. The place is
-/// counted from the first byte of the content.
-pub fn decode_update(alloc: Global, body: &[u8]) -> Result<Update, UpdateFault>
-    ensures reads { UpdateGives body.now result }
+fn read_update(alloc: Global, body: &[u8]) -> Result<Update, UpdateFault>
+    ensures { UpdateGives body.now result }
 {
     let Some(opening) = opening_of(body) else {
         return Err(malformed(0));
@@ -125,4 +112,24 @@ pub fn decode_update(alloc: Global, body: &[u8]) -> Result<Update, UpdateFault>
         attributes,
         nlri,
     })
+}
+
+/// Reads the content of an UPDATE (RFC 4271, section 4.3), which is behind the message header.
+///
+/// ```text
+///  withdrawn length 2 | withdrawn | attribute length 2 | attributes | NLRI
+///  attribute: flags 1 | kind 1 | length 1 or 2 | value
+///  route of the service function family: type 2 | length 2 | body
+/// ```
+///
+/// What is refused, in this order: the withdrawn routes run past the content (told at 0); the attributes do (told at their
+/// length); then for one attribute after the other: it runs past the list, it is a second of kind 14 or 15, one of these
+/// kinds has no family, the head of kind 14 is not all there (each told at the attribute), or one of its routes is not whole
+/// or has not the length of its type (told at the route). Each ends the session with code 3, subcode 1. The place is
+/// counted from the first byte of the content.
+pub fn decode_update(alloc: Global, body: &[u8]) -> Result<Update, UpdateFault>
+    ensures reads { UpdateGives body.now result }
+    ensures exact { Exact body.now result }
+{
+    read_update(alloc, body)
 }

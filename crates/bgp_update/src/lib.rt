@@ -11,6 +11,9 @@
 //! What the layer above uses:
 //!
 //! - `decode_update` answers the value that the bytes spell (`IsUpdate`), or the first fault and its place (`Refused`).
+//! - `encode_update` writes the one spelling of an update, so each undoes the other.
+//! - `Update::broken` is that the first attribute of extended communities is none.
+//! - Two readings of the same bytes are one (`one_reading`).
 //!
 //! It looks into no attribute of another kind, gives no meaning to a route, and does no IO.
 //!
@@ -26,7 +29,9 @@ mod attributes;
 mod bodies;
 mod communities;
 mod decoding;
+mod encoding;
 mod faults;
+mod laws;
 mod nlri_lists;
 mod pieces;
 mod reach;
@@ -35,7 +40,9 @@ mod updates;
 
 pub use attributes::{Attribute, Body, MpReach, MpUnreach};
 pub use decoding::decode_update;
+pub use encoding::{encode_update, value_of};
 pub use faults::UpdateFault;
+pub use laws::one_reading;
 pub use routes::Nlri;
 pub use updates::Update;
 pub use wire_base::NextHop;

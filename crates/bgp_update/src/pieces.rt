@@ -13,7 +13,7 @@ pub(crate) struct Piece<'a> {
 }
 
 /// Flag 0x10: the length has 2 bytes (RFC 4271, section 4.3).
-fn is_long(flags: u8) -> bool
+pub(crate) fn is_long(flags: u8) -> bool
     ensures { result ≡ ((flags / 16) % 2 == 1) }
 {
     (flags >> 4) & 1 == 1

@@ -207,3 +207,86 @@ fn communities_are_read_where_both_flags_are_set(rt: HostRuntime) -> Result<(), 
     );
     Ok(())
 }
+
+#[test]
+fn what_is_read_is_written_again(rt: HostRuntime) -> Result<(), Fail> {
+    let update = decode_update(rt.alloc(), &ANNOUNCED)
+        .ok()
+        .ok_or("an update")?;
+    assert!(rt; !update.broken());
+    assert_eq!(rt;
+        encode_update(rt.alloc(), &update)?.as_slice(),
+        ANNOUNCED.as_slice()
+    );
+    for (name, content) in accepted() {
+        let update = decode_update(rt.alloc(), content).ok().ok_or("an update")?;
+        assert_eq!(rt;
+            encode_update(rt.alloc(), &update)?.as_slice(),
+            content,
+            "{name}"
+        );
+    }
+    Ok(())
+}
+
+/// A path of SPI 42 and a route of type 5, withdrawn; communities; and IPv4 on both sides.
+const WITHDRAWN: [u8; 50] = [
+    0, 2, 8, 10, // one withdrawn route of IPv4
+    0, 41, // attributes
+    0xD0, 16, 0, 8, 0, 2, 0xFD, 0xE8, 0, 0, 0, 1, // communities, with a length of 2 bytes
+    0x80, 15, 23, 0, 31, 9, // MP_UNREACH_NLRI
+    0, 2, 0, 11, 0, 0, 0xFD, 0xE8, 0, 0, 0, 9, 0, 0, 42, // a path
+    0, 5, 0, 1, 7, // a route of another type
+    0x40, 16, 0, // kind 16 without the optional flag
+    16, 10, 1, // a route of IPv4
+];
+
+#[test]
+fn each_kind_of_route_is_read_and_written_again(rt: HostRuntime) -> Result<(), Fail> {
+    let update = decode_update(rt.alloc(), &WITHDRAWN)
+        .ok()
+        .ok_or("an update")?;
+    assert_eq!(rt; update.withdrawn.as_slice(), [8, 10].as_slice());
+    assert_eq!(rt; update.nlri.as_slice(), [16, 10, 1].as_slice());
+    assert_eq!(rt; update.attributes.as_slice().len(), 3);
+    assert!(rt; !update.broken());
+    assert_eq!(rt;
+        encode_update(rt.alloc(), &update)?.as_slice(),
+        WITHDRAWN.as_slice()
+    );
+    match &update.attributes.as_slice()[1].body {
+        Body::Unreach(unreach) => expect_routes(&rt, unreach.nlri.as_slice()),
+        _ => panic!(rt; "routes that are withdrawn"),
+    }
+    Ok(())
+}
+
+fn expect_routes(rt: &impl Abort, routes: &[Nlri]) {
+    match routes {
+        [Nlri::Sfpr { spi, .. }, Nlri::Other { kind, body }] => {
+            assert_eq!(rt; spi.number(), 42);
+            assert_eq!(rt; *kind, 5);
+            assert_eq!(rt; body.as_slice(), [7].as_slice());
+        }
+        _ => panic!(rt; "a path and another route"),
+    }
+}
+
+#[test]
+fn only_the_first_of_kind_16_decides(rt: HostRuntime) -> Result<(), Fail> {
+    let bad_first = [
+        0, 0, 0, 14, 0x40, 16, 0, 0xC0, 16, 8, 0, 2, 0, 0, 0, 0, 0, 1,
+    ];
+    let bad_second = [
+        0, 0, 0, 14, 0xC0, 16, 8, 0, 2, 0, 0, 0, 0, 0, 1, 0x40, 16, 0,
+    ];
+    let update = decode_update(rt.alloc(), &bad_first)
+        .ok()
+        .ok_or("an update")?;
+    assert!(rt; update.broken());
+    let update = decode_update(rt.alloc(), &bad_second)
+        .ok()
+        .ok_or("an update")?;
+    assert!(rt; !update.broken());
+    Ok(())
+}
