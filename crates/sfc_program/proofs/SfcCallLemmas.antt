@@ -1,5 +1,5 @@
 -- From the call of a row to the call of all commands, a case for each row.
-use Rattle.std.proofs.Common.{◌≡◌, ◌≢◌, ◌↔◌, ℕ, Bool, true, List, refl, sym, ap, ◌∙◌, subst}
+use Rattle.std.proofs.Common.{◌≡◌, ◌≢◌, ◌↔◌, ℕ, Bool, true, List, refl, sym, ap, subst}
 use Rattle.sfc_desk.specs.declared.ports.Port.{Port}
 use Rattle.sfc_desk.specs.Desks.{Shown, Files}
 use Rattle.sfc_program.specs.declared.sfc_calls.Row.{Row}
@@ -7,8 +7,8 @@ use Rattle.sfc_program.specs.declared.sfc_calls.Row.TheVariants as row
 use Rattle.sfc_program.specs.declared.statuses.Status.{Status}
 use Rattle.sfc_program.specs.declared.statuses.Status.TheVariants as status
 use Rattle.sfc_program.specs.Commands.{NoneRose}
-use Rattle.sfc_program.specs.WalkCommand.{Walk, IsWalk, WalkRuns, WalkWants}
-use Rattle.sfc_program.specs.ShowNshCommand.{ShowNsh, IsShowNsh, ShowNshRuns, ShowNshWants}
+use Rattle.sfc_program.specs.WalkCommand.{Walk, IsWalk}
+use Rattle.sfc_program.specs.ShowNshCommand.{ShowNsh, IsShowNsh}
 use Rattle.sfc_program.specs.SfcCalls.{Command, walk, show_nsh, Spells, Runs, Wants, RowCall, row_of}
 
 -- the words of a command pick its row

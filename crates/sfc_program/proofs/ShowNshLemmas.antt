@@ -1,15 +1,15 @@
 -- The answers of `show nsh`: what the words say is determined, and causes of different answers exclude each other.
-use Rattle.std.proofs.Common.{◌≡◌, ◌≢◌, ◌⊎◌, inl, inr, ℕ, ◌+◌, ◌<◌, ◌≤◌, Bool, true, List, [], ◌∷◌, ◌++◌, Option, Some, None, length, codes, refl, sym, ap, ◌∙◌, subst, arith}
+use Rattle.std.proofs.Common.{◌≡◌, ◌≢◌, inl, inr, ℕ, ◌<◌, ◌≤◌, Bool, true, List, [], ◌∷◌, ◌++◌, Option, Some, None, length, codes, refl, sym, ap, ◌∙◌, subst, arith}
 use Rattle.sfc_desk.specs.declared.ports.Port.{Port}
 use Rattle.sfc_desk.specs.declared.ports.Port.TheVariants as ports
-use Rattle.sfc_desk.specs.Desks.{Shown, Files, Rose, IsAbsent}
+use Rattle.sfc_desk.specs.Desks.{Shown, Files, Rose}
 use Rattle.sfc_desk.specs.Ports.{is_input}
 use Rattle.sfc_program.specs.declared.statuses.Status.{Status}
 use Rattle.sfc_program.specs.declared.statuses.Status.TheVariants.{Ok, Words, File, Capture, Memory, Long}
 use Rattle.sfc_program.specs.Commands.{FailsAs, NoneRose}
 use Rattle.sfc_program.specs.Fronts.{IsFrontBehind}
 use Rattle.sfc_texts.specs.NshText.{ShowsNsh}
-use Rattle.sfc_program.specs.ShowNshCommand.{ShowNsh, IsShowNsh, ShowNshRuns, ShowNshWants, ShowNshDone, ShowNshLong, TookFront, nothing, front, HasSource, HasLongSource, show_nsh_names, show_nsh_of, source_limit}
+use Rattle.sfc_program.specs.ShowNshCommand.{ShowNsh, IsShowNsh, ShowNshRuns, ShowNshWants, ShowNshDone, TookFront, front, HasSource, HasLongSource, show_nsh_names, show_nsh_of, source_limit}
 
 -- one name has one file
 one_file : (found : Option (List ℕ)) (a b : List ℕ) → found ≡ Some a → found ≡ Some b → a ≡ b

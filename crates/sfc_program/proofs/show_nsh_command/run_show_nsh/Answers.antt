@@ -1,4 +1,4 @@
-use Rattle.std.proofs.Common.{◌≡◌, ◌≢◌, ◌≤◌, Some, refl, sym, subst, ◌∙◌}
+use Rattle.std.proofs.Common.{◌≢◌, refl, sym, ◌∙◌}
 use Rattle.sfc_desk.specs.declared.ports.Port.TheVariants.{Source, Report}
 use Rattle.sfc_program.specs.ShowNshCommand.{show_nsh_of}
 use Rattle.sfc_program.proofs.WalkRunLemmas.{on_ok_at}

@@ -1,4 +1,4 @@
-use Rattle.std.proofs.Common.{◌≡◌, ◌≢◌, ◌≤◌, List, ℕ, length, sym, ◌∙◌, subst}
+use Rattle.std.proofs.Common.{◌≢◌, ◌≤◌, List, ℕ, length, sym, ◌∙◌, subst}
 use Rattle.sfc_desk.specs.declared.ports.Port.TheVariants.{Source, Report}
 use Rattle.sfc_texts.specs.NshText.{ShowsNsh}
 use Rattle.sfc_program.specs.ShowNshCommand.{source_limit}

@@ -1,4 +1,3 @@
-use Rattle.std.proofs.Common.{◌≡◌}
 use Rattle.sfc_program.specs.ShowNshCommand.{show_nsh_of}
 use Rattle.sfc_program.proofs.ShowNshLemmas.{served, runs_of_words, asked_is_answered}
 use Rattle.sfc_program.proofs.show_nsh_command.show_nsh_call.Goals as goal

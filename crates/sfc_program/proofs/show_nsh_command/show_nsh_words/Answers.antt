@@ -1,4 +1,4 @@
-use Rattle.std.proofs.Common.{◌≡◌, List, ℕ, sym, ◌∙◌, arith}
+use Rattle.std.proofs.Common.{sym, ◌∙◌, arith}
 use Rattle.sfc_program.proofs.WordLemmas.{three_spelled_so, passed_test, same_word, some_word}
 use Rattle.sfc_program.proofs.show_nsh_command.show_nsh_words.Goals as goal
 
