@@ -39,6 +39,8 @@ mod gates;
 mod laws;
 mod paths;
 mod reading;
+#[cfg(test)]
+mod reading_tests;
 mod reports;
 mod sfc_calls;
 mod show_nsh_command;
