@@ -102,7 +102,7 @@ fn print_item(out: &mut Bytes, item: ItemRef<'_>) -> Result<(), OutOfMemory>
     out.push_all(b"\n")
 }
 
-/// Appends the lines of items.
+/// Appends the lines of items. Each is found from the front; a header has at most 61.
 fn print_items(out: &mut Bytes, items: &ItemList) -> Result<(), OutOfMemory>
     ensures { OnOk result (out.new ≡ out.old ++ flat_map item_line items.now) }
 {
