@@ -22,10 +22,12 @@
 //! ```
 #![tactic(auto)]
 
+mod bgp_text;
 mod laws;
 mod nsh_text;
 #[cfg(test)]
 mod tests;
 
+pub use bgp_text::bgp_lines;
 pub use laws::bytes_are_shown_once;
 pub use nsh_text::nsh_lines;
