@@ -1,18 +1,21 @@
 //! What a table is made of.
 
+use bgp_messages::Refusal;
 use nsh_headers::NshFault;
 
 /// What a decoder answers to an input.
-#[derive(Clone, Copy, Debug, PartialEq, Eq)]
+#[derive(Debug, Drop)]
 pub enum Expected {
     /// The input begins with a value of the format.
     Accepted,
     /// A Network Service Header with this fault.
     Nsh(NshFault),
+    /// A stream of BGP messages that is refused so.
+    Bgp(Refusal),
 }
 
 /// An input and the answer to it.
-#[derive(Clone, Copy, Debug)]
+#[derive(Debug, Drop)]
 pub struct Case {
     /// What the input shows.
     pub name: &'static str,
@@ -21,7 +24,16 @@ pub struct Case {
 }
 
 /// A table of N cases.
-#[derive(Clone, Copy)]
+#[derive(Drop)]
 pub struct Cases<const N: usize> {
     pub cases: [Case; N],
 }
+
+/// A table from rows `NAME: INPUT => ANSWER,`.
+macro_rules! table {
+    ($($name:literal: $input:expr => $answer:expr,)+) => {
+        Cases { cases: [$(Case { name: $name, input: $input, answer: $answer }),+] }
+    };
+}
+
+pub(crate) use table;

@@ -10,21 +10,24 @@
 //!
 //! - `nsh_cases` has each refusal of a Network Service Header (RFC 8300), at the first byte that shows it and
 //!   with all bytes behind it, at its first and its last possible place, and headers that are accepted.
+//! - `bgp_cases` has the same of BGP messages (RFC 4271, sections 4, 6.1 and 6.2).
 //!
 //! The expected answers are written by hand from the formats, and not taken from a decoder. The crate's own
 //! tests run each table through this project's decoders, whole and in every cutting into two pieces.
 //!
 //! ```text
 //! for case in &nsh_cases().cases {
-//!     assert_eq!(my_decoder(case.input), case.answer);
+//!     expect(my_decoder(case.input), &case.answer);
 //! }
 //! ```
 #![tactic(auto)]
 
+mod bgp;
 mod cases;
 mod nsh;
 #[cfg(test)]
 mod tests;
 
+pub use bgp::bgp_cases;
 pub use cases::{Case, Cases, Expected};
 pub use nsh::nsh_cases;

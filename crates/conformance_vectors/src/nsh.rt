@@ -1,6 +1,6 @@
 //! The table for Network Service Headers (RFC 8300, section 2).
 
-use crate::cases::{Case, Cases, Expected};
+use crate::cases::{Case, Cases, Expected, table};
 use nsh_headers::NshFault;
 
 /// No items: TTL 63, 2 words, MD Type 2, Ethernet, SPI 42, SI 255.
@@ -62,12 +62,6 @@ static LONGEST_ITEM: [u8; 140] = [
     0x77, 0x77, 0x77, 0x77, 0x77, 0x77, 0x77, 0x77, 0x77, 0x77, 0x77, 0x77, 0x77, 0x77, 0x77, 0x77,
     0x77, 0x77, 0x77, 0x77, 0x77, 0x77, 0x77, 0x77, 0x77, 0x77, 0x77, 0x77,
 ];
-
-macro_rules! table {
-    ($($name:literal: $input:expr => $answer:expr,)+) => {
-        Cases { cases: [$(Case { name: $name, input: $input, answer: $answer }),+] }
-    };
-}
 
 /// The table for Network Service Headers. Where the answer is `Accepted`, the input is one header and no
 /// more.

@@ -1,6 +1,27 @@
 use super::*;
+use bgp_messages::{BgpFeed, Message, NextFault, Refusal};
 use nsh_headers::NshFault;
 use nsh_metadata::{NshFeed, NshStep, decode_nsh};
+use std::alloc::Global;
+use std::process::Abort;
+use std::test::Fail;
+
+/// Whether an answer is the expected one.
+fn is_same(answer: &Expected, expected: &Expected) -> bool {
+    match (answer, expected) {
+        (Expected::Accepted, Expected::Accepted) => true,
+        (Expected::Nsh(fault), Expected::Nsh(other)) => fault == other,
+        (Expected::Bgp(refusal), Expected::Bgp(other)) => is_same_refusal(refusal, other),
+        _ => false,
+    }
+}
+
+fn is_same_refusal(refusal: &Refusal, other: &Refusal) -> bool {
+    refusal.code == other.code
+        && refusal.subcode == other.subcode
+        && refusal.place == other.place
+        && refusal.info.as_slice() == other.info.as_slice()
+}
 
 /// What the decoder of whole inputs answers. A header that does not fill the input is none.
 fn whole_answer(input: &[u8]) -> Option<Expected> {
@@ -30,28 +51,94 @@ fn fed_answer(first: &[u8], second: &[u8]) -> Option<Expected> {
 }
 
 #[test]
-fn the_nsh_table_holds_of_the_decoder(rt: HostRuntime) {
+fn the_nsh_table_holds_of_the_decoder(rt: HostRuntime) -> Result<(), Fail> {
     for case in &nsh_cases().cases {
-        assert_eq!(rt;
-            whole_answer(case.input),
-            Some(case.answer),
-            "{}",
-            case.name
-        );
+        let answer = whole_answer(case.input).ok_or(case.name)?;
+        assert!(rt; is_same(&answer, &case.answer), "{}", case.name);
+    }
+    Ok(())
+}
+
+#[test]
+fn the_nsh_table_holds_of_the_feed_in_every_cutting_into_two(rt: HostRuntime) -> Result<(), Fail> {
+    for case in &nsh_cases().cases {
+        for cut in 0..=case.input.len() {
+            let (first, second) = case.input.split_at(cut);
+            let answer = fed_answer(first, second).ok_or(case.name)?;
+            assert!(rt; is_same(&answer, &case.answer), "{} at {cut}", case.name);
+        }
+    }
+    Ok(())
+}
+
+/// What a new BGP feed answers to the input in two pieces: its refusal, or `Accepted` where it gives one message
+/// and then awaits another. A refusal of the first piece stands.
+fn streamed_answer(alloc: Global, first: &[u8], second: &[u8]) -> Option<Expected> {
+    let mut feed = BgpFeed::new(alloc);
+    feed.push(first).ok()?;
+    match feed.next() {
+        Ok(None) => {}
+        Ok(Some(_)) if second.is_empty() => {
+            return matches!(feed.next(), Ok(None)).then_some(Expected::Accepted);
+        }
+        Err(NextFault::Bad(refusal)) => return Some(Expected::Bgp(refusal)),
+        _ => return None,
+    }
+    feed.push(second).ok()?;
+    match feed.next() {
+        Ok(Some(_)) => matches!(feed.next(), Ok(None)).then_some(Expected::Accepted),
+        Err(NextFault::Bad(refusal)) => Some(Expected::Bgp(refusal)),
+        _ => None,
     }
 }
 
 #[test]
-fn the_nsh_table_holds_of_the_feed_in_every_cutting_into_two(rt: HostRuntime) {
-    for case in &nsh_cases().cases {
+fn the_bgp_table_holds_of_the_feed_whole_and_in_every_cutting_into_two(
+    rt: HostRuntime,
+) -> Result<(), Fail> {
+    for case in &bgp_cases().cases {
         for cut in 0..=case.input.len() {
             let (first, second) = case.input.split_at(cut);
-            assert_eq!(rt;
-                fed_answer(first, second),
-                Some(case.answer),
-                "{} at {cut}",
-                case.name
-            );
+            let answer = streamed_answer(rt.alloc(), first, second).ok_or(case.name)?;
+            assert!(rt; is_same(&answer, &case.answer), "{} at {cut}", case.name);
         }
     }
+    Ok(())
+}
+
+/// The one message that is its header alone.
+static KEEPALIVE: [u8; 19] = [
+    0xFF, 0xFF, 0xFF, 0xFF, 0xFF, 0xFF, 0xFF, 0xFF, 0xFF, 0xFF, 0xFF, 0xFF, 0xFF, 0xFF, 0xFF, 0xFF,
+    0, 19, 4,
+];
+
+fn expect_length_18_at_35(rt: &impl Abort, answer: Result<Option<Message>, NextFault>) {
+    match answer {
+        Err(NextFault::Bad(refusal)) => {
+            assert_eq!(rt; refusal.code, 1);
+            assert_eq!(rt; refusal.subcode, 2);
+            assert_eq!(rt; refusal.place, 35);
+            assert_eq!(rt; refusal.info.as_slice(), [0, 18].as_slice());
+        }
+        _ => panic!(rt; "a length of 18 is refused"),
+    }
+}
+
+#[test]
+fn a_keepalive_in_single_bytes_and_then_a_length_of_18(rt: HostRuntime) -> Result<(), Fail> {
+    let mut feed = BgpFeed::new(rt.alloc());
+    for byte in &KEEPALIVE {
+        assert!(rt; matches!(feed.next(), Ok(None)));
+        feed.push(&[*byte])?;
+    }
+    assert!(rt; matches!(feed.next(), Ok(Some(Message::KeepAlive))));
+    for byte in &KEEPALIVE[..17] {
+        feed.push(&[*byte])?;
+        assert!(rt; matches!(feed.next(), Ok(None)));
+    }
+    feed.push(&[18])?;
+    expect_length_18_at_35(&rt, feed.next());
+    feed.push(&KEEPALIVE)?;
+    expect_length_18_at_35(&rt, feed.next());
+    Ok(())
 }
