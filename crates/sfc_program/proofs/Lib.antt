@@ -8,4 +8,5 @@ pub mod PacketLemmas
 pub mod WalkRunLemmas
 pub mod WalkAnswerLemmas
 pub mod ShowNshLemmas
+pub mod ShowBgpLemmas
 pub mod SfcCallLemmas

@@ -3,6 +3,7 @@ pub mod Walks
 pub mod Commands
 pub mod WalkCommand
 pub mod ShowNshCommand
+pub mod ShowBgpCommand
 pub mod SfcCalls
 pub mod WalkSteps
 pub mod Fronts

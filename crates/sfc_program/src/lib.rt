@@ -22,6 +22,7 @@
 //! - `show_nsh_call` is the command `show nsh`: with Ok, Report took exactly the text that shows the header
 //!   at the front of the file, or its refusal (`ShowsNsh`), and after a failed call or want of memory a
 //!   front of that.
+//! - `show_bgp_call` is the command `show bgp`, with the text that shows a stream of BGP messages (`ShowsBgp`).
 //! - `walk_frame` gives the end of one frame's walk, on the 8 bytes of a header that is changed in place.
 //! - `status_line` is the line of a status.
 //!
@@ -43,6 +44,7 @@ mod reading;
 mod reading_tests;
 mod reports;
 mod sfc_calls;
+mod show_bgp_command;
 mod show_nsh_command;
 mod slow_walks;
 mod statuses;
@@ -58,6 +60,7 @@ pub use gates::{Gate, OpenGate};
 pub use laws::sixty_one_functions_spend_the_ttl;
 pub use paths::{Answer, HopRow, Path};
 pub use sfc_calls::sfc_call;
+pub use show_bgp_command::show_bgp_call;
 pub use show_nsh_command::show_nsh_call;
 pub use slow_walks::walk_by_stations;
 pub use statuses::{CaptureReason, Status, status_line};

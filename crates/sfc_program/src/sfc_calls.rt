@@ -5,6 +5,7 @@ ghost use Rattle.sfc_program.specs.Commands.{NoneRose};
 ghost use Rattle.sfc_program.specs.SfcCalls.{Command, Spells, Runs, Wants, RowCall, row_of as row_of_words, show_row_of as show_row_of_words};
 
 use crate::gates::Gate;
+use crate::show_bgp_command::show_bgp_call;
 use crate::show_nsh_command::show_nsh_call;
 use crate::statuses::Status;
 use crate::walk_command::walk_call;
@@ -17,6 +18,7 @@ use std::alloc::Global;
 pub(crate) enum Row {
     Walk,
     ShowNsh,
+    ShowBgp,
     /// No command has these words.
     Unknown,
 }
@@ -31,6 +33,9 @@ fn show_row_of(words: &Words) -> Row
     }
     if words.word(1) == "nsh" {
         return Row::ShowNsh;
+    }
+    if words.word(1) == "bgp" {
+        return Row::ShowBgp;
     }
     Row::Unknown
 }
@@ -58,6 +63,7 @@ fn call_row<D: Desk>(alloc: Global, row: Row, words: &Words, desk: &mut D) -> St
     match row {
         Row::Walk => walk_call(alloc, words, desk),
         Row::ShowNsh => show_nsh_call(alloc, words, desk),
+        Row::ShowBgp => show_bgp_call(alloc, words, desk),
         Row::Unknown => Status::Words,
     }
 }
