@@ -9,7 +9,7 @@ use Rattle.sfc_program.specs.declared.statuses.Status.TheVariants.{Ok, Words, Fi
 use Rattle.sfc_program.specs.Commands.{FailsAs, NoneRose}
 use Rattle.sfc_program.specs.Fronts.{IsFrontBehind}
 use Rattle.sfc_program.specs.declared.show_command.Format.{Format}
-use Rattle.sfc_program.specs.declared.show_command.Format.TheVariants.{Nsh}
+use Rattle.sfc_program.specs.declared.show_command.Format.TheVariants.{Nsh, Bgp}
 use Rattle.sfc_program.specs.ShowCommand.{Show, IsShow, ShowRuns, ShowWants, ShowDone, TookFront, front, HasSource, HasLongSource, show_names, source_limit, Shows, format_word}
 
 -- one name has one file
@@ -76,6 +76,9 @@ asked_is_answered show tells held then now (Long port) _ runs wants told none so
 -- a word names one format
 one_format : (f g : Format) → format_word f ≡ format_word g → f ≡ g
 one_format Nsh Nsh e = refl
+one_format Nsh Bgp e = cc
+one_format Bgp Nsh e = cc
+one_format Bgp Bgp e = refl
 
 -- what words say is a format and a source
 one_said : (a b : Show) → a.format ≡ b.format → a.source ≡ b.source → a ≡ b

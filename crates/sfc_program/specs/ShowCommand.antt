@@ -4,6 +4,7 @@ use Rattle.sfc_desk.specs.declared.ports.Port.{Port}
 use Rattle.sfc_desk.specs.declared.ports.Port.TheVariants as ports
 use Rattle.sfc_desk.specs.Desks.{Shown, Files}
 use Rattle.sfc_texts.specs.NshText.{ShowsNsh}
+use Rattle.sfc_texts.specs.BgpText.{ShowsBgp}
 use Rattle.sfc_program.specs.declared.show_command.Format.{Format}
 use Rattle.sfc_program.specs.declared.show_command.Format.TheVariants as formats
 use Rattle.sfc_program.specs.declared.statuses.Status.{Status}
@@ -14,10 +15,12 @@ use Rattle.sfc_program.specs.Fronts.{IsFrontBehind}
 -- the word of a format
 abbrev pub format_word : Format → List ℕ
 format_word formats.Nsh = codes "nsh"
+format_word formats.Bgp = codes "bgp"
 
 -- the text shows the bytes, taken for this format
 abbrev pub Shows : Format → List ℕ → List ℕ → Type 0
 Shows formats.Nsh bytes text = ShowsNsh bytes text
+Shows formats.Bgp bytes text = ShowsBgp bytes text
 
 -- what the words say
 pub record Show : Type 0 where

@@ -19,7 +19,7 @@
 //! - `walk_call` is the command `walk`: with Ok the egress is `egress_of` the frames and the ends of their
 //!   walks (`WalksTo`); after a failed call or want of memory it is a front of that, and after a refused or
 //!   too long capture it is empty.
-//! - `show_call` is `show nsh` and its like: with Ok, Report took exactly the text that shows the bytes of the
+//! - `show_call` is `show nsh` and `show bgp`: with Ok, Report took exactly the text that shows the bytes of the
 //!   file, or their refusal (`Shows`), and after a failed call or want of memory a front of that.
 //! - `walk_frame` gives the end of one frame's walk, on the 8 bytes of a header that is changed in place.
 //! - `status_line` is the line of a status.

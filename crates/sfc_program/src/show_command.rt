@@ -11,7 +11,7 @@ use crate::reports::report;
 use crate::statuses::Status;
 use crate::words::Words;
 use sfc_desk::{Desk, Port};
-use sfc_texts::nsh_lines;
+use sfc_texts::{bgp_lines, nsh_lines};
 use std::alloc::Global;
 use wire_base::{Bytes, OutOfMemory};
 
@@ -23,6 +23,8 @@ const SOURCE_LIMIT: usize = 1 << 40;
 pub(crate) enum Format {
     /// A Network Service Header and what follows it.
     Nsh,
+    /// A stream of BGP messages.
+    Bgp,
 }
 
 /// What the words of `show` say: the format, and the name of the file.
@@ -38,6 +40,9 @@ fn format_named(word: &str) -> Option<Format>
 {
     if word == "nsh" {
         return Some(Format::Nsh);
+    }
+    if word == "bgp" {
+        return Some(Format::Bgp);
     }
     None
 }
@@ -68,6 +73,7 @@ fn text_of(alloc: Global, format: Format, bytes: &[u8]) -> Result<Bytes, OutOfMe
 {
     match format {
         Format::Nsh => nsh_lines(alloc, bytes),
+        Format::Bgp => bgp_lines(alloc, bytes),
     }
 }
 
@@ -103,7 +109,7 @@ fn run_show<D: Desk>(alloc: Global, desk: &mut D, said: &ShowWords<'_>) -> Statu
     show_bound(alloc, desk, said.format)
 }
 
-/// The commands `show nsh FILE` and its like: the lines that show the bytes of the file, or say where they
+/// The commands `show nsh FILE` and `show bgp FILE`: the lines that show the bytes of the file, or say where they
 /// are refused.
 ///
 /// Source is bound and read to its end, and Report gets the lines.

@@ -14,7 +14,7 @@ use text_words::{print_four_digits, print_number, print_octets, print_octets_or_
 use wire_base::{Bytes, OutOfMemory};
 
 /// Appends a label and a number.
-fn print_field(out: &mut Bytes, label: &[u8], number: u64) -> Result<(), OutOfMemory>
+pub(crate) fn print_field(out: &mut Bytes, label: &[u8], number: u64) -> Result<(), OutOfMemory>
     ensures { OnOk result (out.new ≡ out.old ++ field label.now number) }
 {
     out.push_all(label)?;
