@@ -158,3 +158,135 @@ fn refuses_a_capture_of_another_form(rt: HostRuntime) -> Result<(), Fail> {
     }
     Ok(())
 }
+
+/// The header of RFC 8300's layout with TTL 63, 5 words, MD Type 2, Ethernet, SPI 42, SI 255 and an item of 5
+/// bytes with an odd pad, and 2 bytes of payload.
+const ONE_ITEM: [u8; 22] = [
+    0x0F, 0xC5, 0x02, 0x03, 0x00, 0x00, 0x2A, 0xFF, 0x01, 0x23, 0x04, 0x05, 0x11, 0x22, 0x33, 0x44,
+    0x55, 0xAA, 0xBB, 0xCC, 0x00, 0x00,
+];
+
+/// The lines that show these bytes.
+const ONE_ITEM_LINES: &[u8] =
+    b"nsh o=0 ttl=63 words=5 md=2 next=ethernet spi=42 si=255 spare=0/0\nitem class=0123 kind=4 spare=0 body=1122334455 pad=aabbcc\npayload 2\n";
+
+#[test]
+fn a_header_with_an_odd_pad_is_shown(rt: HostRuntime) -> Result<(), Fail> {
+    let mut desk = desk_of(rt.alloc(), &ONE_ITEM, &[])?;
+    let words = words_of(rt.alloc(), "show nsh K")?;
+    let status = sfc_call(rt.alloc(), &words, &mut desk, &OpenGate);
+    assert_eq!(rt; status, Status::Ok);
+    assert!(rt; desk.output(Port::Report) == ONE_ITEM_LINES);
+    Ok(())
+}
+
+#[test]
+fn a_refusal_is_a_line_and_no_status(rt: HostRuntime) -> Result<(), Fail> {
+    // MD Type 1 with 5 words, no byte, and an item of 10 bytes that passes the header's end
+    let mut fixed = ONE_ITEM;
+    fixed[2] = 0x01;
+    let mut past = ONE_ITEM;
+    past[11] = 0x0A;
+    let cases: [(&[u8], &[u8]); 4] = [
+        (&fixed, b"refused length 5\n"),
+        (&[], b"refused short 0\n"),
+        (&ONE_ITEM[..19], b"refused short 19\n"),
+        (&past, b"refused context 8\n"),
+    ];
+    for (bytes, line) in cases {
+        let mut desk = desk_of(rt.alloc(), bytes, &[])?;
+        let words = words_of(rt.alloc(), "show nsh K")?;
+        let status = sfc_call(rt.alloc(), &words, &mut desk, &OpenGate);
+        assert_eq!(rt; status, Status::Ok);
+        assert!(rt; desk.output(Port::Report) == line);
+    }
+    Ok(())
+}
+
+#[test]
+fn an_absent_source_is_a_file_fault(rt: HostRuntime) -> Result<(), Fail> {
+    let mut desk = desk_of(rt.alloc(), &ONE_ITEM, &[])?;
+    let words = words_of(rt.alloc(), "show nsh other")?;
+    let status = sfc_call(rt.alloc(), &words, &mut desk, &OpenGate);
+    assert_eq!(rt; status, Status::File(Port::Source));
+    assert_eq!(rt;
+        (
+            status.number(),
+            status_line(&status).as_str() == "file source"
+        ),
+        (3, true)
+    );
+    assert_eq!(rt; desk.output(Port::Report).len(), 0);
+    Ok(())
+}
+
+#[test]
+fn refuses_words_that_show_nothing(rt: HostRuntime) -> Result<(), Fail> {
+    for line in [
+        "show",
+        "show nsh",
+        "show nsh a b",
+        "show bgp x",
+        "nsh show K",
+    ] {
+        // a bind would fail, and no call is made
+        let mut desk = desk_of(rt.alloc(), &ONE_ITEM, &[0])?;
+        let words = words_of(rt.alloc(), line)?;
+        let status = sfc_call(rt.alloc(), &words, &mut desk, &OpenGate);
+        assert_eq!(rt; status, Status::Words, "{line}");
+        assert_eq!(rt; desk.output(Port::Report).len(), 0);
+    }
+    let mut words = words_of(rt.alloc(), "show nsh")?;
+    words.push(rt.alloc(), "")?;
+    let mut desk = desk_of(rt.alloc(), &ONE_ITEM, &[])?;
+    let status = sfc_call(rt.alloc(), &words, &mut desk, &OpenGate);
+    assert_eq!(rt; status, Status::Words);
+    Ok(())
+}
+
+#[test]
+fn a_failing_call_of_show_nsh_is_told(rt: HostRuntime) -> Result<(), Fail> {
+    // call 0 is the bind, call 1 the first read of 7 bytes, call 5 the one that finds the end of the 22
+    // bytes, and call 6 the one write
+    for (call, port) in [
+        (0, Port::Source),
+        (1, Port::Source),
+        (5, Port::Source),
+        (6, Port::Report),
+    ] {
+        let mut desk = desk_of(rt.alloc(), &ONE_ITEM, &[call])?;
+        let words = words_of(rt.alloc(), "show nsh K")?;
+        let status = sfc_call(rt.alloc(), &words, &mut desk, &OpenGate);
+        assert_eq!(rt; status, Status::File(port), "call {call}");
+        assert_eq!(rt; desk.output(Port::Report).len(), 0, "call {call}");
+    }
+    Ok(())
+}
+
+#[test]
+fn a_report_without_room_is_a_file_fault(rt: HostRuntime) -> Result<(), Fail> {
+    let mut desk = MemoryDesk::new(rt.alloc(), 7, List::new(rt.alloc()), 14)?;
+    desk.add_file(rt.alloc(), "K", &ONE_ITEM)?;
+    let words = words_of(rt.alloc(), "show nsh K")?;
+    let status = sfc_call(rt.alloc(), &words, &mut desk, &OpenGate);
+    assert_eq!(rt; status, Status::File(Port::Report));
+    assert_eq!(rt; status_line(&status).as_str(), "file report");
+    assert_eq!(rt; desk.output(Port::Report).len(), 0);
+    Ok(())
+}
+
+#[test]
+fn a_header_is_shown_in_pieces_of_any_size(rt: HostRuntime) -> Result<(), Fail> {
+    for piece in 1..24 {
+        let mut desk = MemoryDesk::new(rt.alloc(), piece, List::new(rt.alloc()), 1000)?;
+        desk.add_file(rt.alloc(), "K", &ONE_ITEM)?;
+        let words = words_of(rt.alloc(), "show nsh K")?;
+        let status = sfc_call(rt.alloc(), &words, &mut desk, &OpenGate);
+        assert_eq!(rt; status, Status::Ok, "in pieces of {piece}");
+        assert!(rt;
+            desk.output(Port::Report) == ONE_ITEM_LINES,
+            "in pieces of {piece}"
+        );
+    }
+    Ok(())
+}

@@ -151,6 +151,8 @@ fn fresh_slots(alloc: Global, room: usize) -> Result<Vec<Slot>, AllocError>
 }
 
 impl MemoryDesk {
+    ghost use Rattle.sfc_desk.specs.Calls.{calls_of, fail_of, piece_of, free_at};
+
     /// A desk with no file, whose reads give at most `piece` bytes, whose calls of the listed
     /// numbers fail, and whose outputs have this room each.
     pub fn new(
@@ -162,6 +164,10 @@ impl MemoryDesk {
         requires { 0 < piece }
         ensures no_file { IfOk result (λ desk. (name : _) → ⟦<MemoryDesk as Desk>⟧.held desk name ≡ None) }
         ensures fresh { IfOk result (λ desk. (port : Port) → ⟦<MemoryDesk as Desk>⟧.at desk port ≡ nothing port) }
+        ensures calls { IfOk result (λ desk. calls_of desk ≡ 0) }
+        ensures listed { IfOk result (λ desk. fail_of desk ≡ fail) }
+        ensures pieces { IfOk result (λ desk. piece_of desk ≡ piece) }
+        ensures room { IfOk result (λ desk. (port : Port) → free_at desk port ≡ room) }
     {
         Ok(MemoryDesk {
             files: List::new(alloc),

@@ -1,6 +1,7 @@
 -- Fronts: what stands at the front of a front, and before more.
 use Rattle.std.proofs.Common.{◌≡◌, ℕ, List, [], ◌++◌, append_assoc, append-nil, sym, ap, ◌∙◌}
-use Rattle.sfc_program.specs.Fronts.{IsFront}
+use Rattle.std.proofs.lemmas.List.{append_cancel_left}
+use Rattle.sfc_program.specs.Fronts.{IsFront, IsFrontBehind}
 
 -- a front of bytes is a front of them with more behind
 pub front_of_more : (xs ys more whole : List ℕ) → ys ++ more ≡ whole → IsFront xs ys → IsFront xs whole
@@ -24,3 +25,15 @@ front_of_same taken part whole is front = (front.0, front.1 ∙ is)
 pub head_and_packets : (start taken waiting head packets : List ℕ) → start ≡ (taken ++ waiting) ++ head → waiting ≡ [] → start ++ packets ≡ taken ++ (head ++ packets)
 head_and_packets start taken waiting head packets is nothing =
     ap (λ zs. zs ++ packets) is ∙ (append_assoc (taken ++ waiting) head packets ∙ ap (λ zs. zs ++ (head ++ packets)) (ap (λ w. taken ++ w) nothing ∙ append-nil taken))
+
+-- bytes are a front of themselves, and of themselves with more behind
+pub front_of_itself : (xs : List ℕ) → IsFront xs xs
+front_of_itself xs = ([], append-nil xs)
+
+pub front_grows : (xs ys zs more : List ℕ) → IsFront xs ys → zs ≡ ys ++ more → IsFront xs zs
+front_grows xs ys zs more front is = (front.0 ++ more, sym (append_assoc xs front.0 more) ∙ (ap (λ b. b ++ more) front.1 ∙ sym is))
+
+-- what was there is a front of what is there, and that is a front of what was there and the text
+pub front_behind : (before now text : List ℕ) → IsFront before now → IsFront now (before ++ text) → IsFrontBehind before now text
+front_behind before now text grew front =
+    (grew.0, sym grew.1, (front.0, append_cancel_left before (grew.0 ++ front.0) text (sym (append_assoc before grew.0 front.0) ∙ (ap (λ b. b ++ front.0) grew.1 ∙ front.1))))

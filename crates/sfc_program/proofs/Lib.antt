@@ -7,4 +7,5 @@ pub mod PieceLemmas
 pub mod PacketLemmas
 pub mod WalkRunLemmas
 pub mod WalkAnswerLemmas
+pub mod ShowNshLemmas
 pub mod SfcCallLemmas

@@ -8,11 +8,15 @@ use Rattle.sfc_program.specs.declared.statuses.Status.{Status}
 use Rattle.sfc_program.specs.declared.statuses.Status.TheVariants as status
 use Rattle.sfc_program.specs.Commands.{NoneRose}
 use Rattle.sfc_program.specs.WalkCommand.{Walk, IsWalk, WalkRuns, WalkWants}
-use Rattle.sfc_program.specs.SfcCalls.{Command, walk, Spells, Runs, Wants, RowCall, row_of}
+use Rattle.sfc_program.specs.ShowNshCommand.{ShowNsh, IsShowNsh, ShowNshRuns, ShowNshWants}
+use Rattle.sfc_program.specs.SfcCalls.{Command, walk, show_nsh, Spells, Runs, Wants, RowCall, row_of}
 
 -- the words of a command pick its row
 walk_row : (words : List (List ℕ)) (said : Walk) → IsWalk words said → row_of words ≡ row.Walk
 walk_row words said is = ap row_of is.spelled
+
+show_nsh_row : (words : List (List ℕ)) (said : ShowNsh) → IsShowNsh words said → row_of words ≡ row.ShowNsh
+show_nsh_row words said is = ap row_of is.spelled
 
 -- what the call of a row says, said of all commands
 pub record AllCommands (words : List (List ℕ)) (tells : Bool) (held : Files) (then now : Port → Shown) (answer : Status) : Type 0 where
@@ -21,24 +25,46 @@ pub record AllCommands (words : List (List ℕ)) (tells : Bool) (held : Files) (
   pub untouched : answer ≡ status.Words → (port : Port) → now port ≡ then port
   pub exact : (command : Command) (wanted : Status) → Spells words command → Wants command held wanted → tells ≡ true → NoneRose then now → answer ≢ status.Memory → answer ≡ wanted
 
+-- words that pick no row spell no command
 unknown_spells_none : (words : List (List ℕ)) (command : Command) → row_of words ≡ row.Unknown → Spells words command → ⊥
 unknown_spells_none words (walk said) picked is = let other : row_of words ≡ row.Walk = walk_row words said is in cc
+unknown_spells_none words (show_nsh said) picked is = let other : row_of words ≡ row.ShowNsh = show_nsh_row words said is in cc
 
-walk_refused : (words : List (List ℕ)) (command : Command) → ((said : Walk) → IsWalk words said → ⊥) → Spells words command → ⊥
-walk_refused words (walk said) none spells = none said spells
+-- words that pick a row spell that row's command alone
+spells_walk : (words : List (List ℕ)) (command : Command) → row_of words ≡ row.Walk → Spells words command → (said : Walk) × (command ≡ walk said) × IsWalk words said
+spells_walk words (walk said) picked is = (said, refl, is)
+spells_walk words (show_nsh said) picked is = let other : row_of words ≡ row.ShowNsh = show_nsh_row words said is in cc
 
-walk_runs : (words : List (List ℕ)) (tells : Bool) (held : Files) (then now : Port → Shown) (answer : Status) (command : Command) → ((said : Walk) → IsWalk words said → WalkRuns said tells held then now answer) → Spells words command → Runs command tells held then now answer
-walk_runs words tells held then now answer (walk said) runs spells = runs said spells
-
-walk_exact : (words : List (List ℕ)) (tells : Bool) (held : Files) (then now : Port → Shown) (answer : Status) (command : Command) → ((said : Walk) (wanted : Status) → IsWalk words said → WalkWants said held wanted → tells ≡ true → NoneRose then now → answer ≢ status.Memory → answer ≡ wanted) → (wanted : Status) → Spells words command → Wants command held wanted → tells ≡ true → NoneRose then now → answer ≢ status.Memory → answer ≡ wanted
-walk_exact words tells held then now answer (walk said) exact wanted spells wants told none some = exact said wanted spells wants told none some
+spells_show_nsh : (words : List (List ℕ)) (command : Command) → row_of words ≡ row.ShowNsh → Spells words command → (said : ShowNsh) × (command ≡ show_nsh said) × IsShowNsh words said
+spells_show_nsh words (walk said) picked is = let other : row_of words ≡ row.Walk = walk_row words said is in cc
+spells_show_nsh words (show_nsh said) picked is = (said, refl, is)
 
 pub of_row : (picked : Row) (words : List (List ℕ)) (tells : Bool) (held : Files) (then now : Port → Shown) (answer : Status) → row_of words ≡ picked → RowCall picked words tells held then now answer → AllCommands words tells held then now answer
 of_row row.Walk words tells held then now answer is call = record {
-  words_fault = ((λ refused command. walk_refused words command (call.words_fault.0 refused)), λ none. call.words_fault.1 (λ said is_said. none (walk said) is_said));
-  runs = λ command. walk_runs words tells held then now answer command call.runs;
+  words_fault = (
+    (λ refused command spells. let one = spells_walk words command is spells in call.words_fault.0 refused one.0 one.2),
+    λ none. call.words_fault.1 (λ said is_said. none (walk said) is_said),
+  );
+  runs = λ command spells.
+      let one = spells_walk words command is spells in
+      subst (λ (c : Command). Runs c tells held then now answer) (sym one.1) (call.runs one.0 one.2);
   untouched = call.untouched;
-  exact = λ command. walk_exact words tells held then now answer command call.exact;
+  exact = λ command wanted spells wants told none some.
+      let one = spells_walk words command is spells in
+      call.exact one.0 wanted one.2 (subst (λ (c : Command). Wants c held wanted) one.1 wants) told none some;
+}
+of_row row.ShowNsh words tells held then now answer is call = record {
+  words_fault = (
+    (λ refused command spells. let one = spells_show_nsh words command is spells in call.words_fault.0 refused one.0 one.2),
+    λ none. call.words_fault.1 (λ said is_said. none (show_nsh said) is_said),
+  );
+  runs = λ command spells.
+      let one = spells_show_nsh words command is spells in
+      subst (λ (c : Command). Runs c tells held then now answer) (sym one.1) (call.runs one.0 one.2);
+  untouched = call.untouched;
+  exact = λ command wanted spells wants told none some.
+      let one = spells_show_nsh words command is spells in
+      call.exact one.0 wanted one.2 (subst (λ (c : Command). Wants c held wanted) one.1 wants) told none some;
 }
 of_row row.Unknown words tells held then now answer is call = record {
   words_fault = ((λ refused command spells. unknown_spells_none words command is spells), λ none. call.0);

@@ -27,6 +27,18 @@ five_words (a ∷ b ∷ c ∷ d ∷ w ∷ x ∷ xs) e = absurd (omega arith)
 pub spelled_so : (words : List (List ℕ)) (a b c d e : List ℕ) → length words ≡ 5 → slice_index_or words 0 [] ≡ a → slice_index_or words 1 [] ≡ b → slice_index_or words 2 [] ≡ c → slice_index_or words 3 [] ≡ d → slice_index_or words 4 [] ≡ e → words ≡ a ∷ b ∷ c ∷ d ∷ e ∷ []
 spelled_so words a b c d e len is_a is_b is_c is_d is_e = let all = five_words words len in cc
 
+-- three words are the words at the three places
+three_words : (words : List (List ℕ)) → length words ≡ 3 → words ≡ slice_index_or words 0 [] ∷ slice_index_or words 1 [] ∷ slice_index_or words 2 [] ∷ []
+three_words [] e = absurd (omega arith)
+three_words (a ∷ []) e = absurd (omega arith)
+three_words (a ∷ b ∷ []) e = absurd (omega arith)
+three_words (a ∷ b ∷ c ∷ []) e = refl
+three_words (a ∷ b ∷ c ∷ d ∷ xs) e = absurd (omega arith)
+
+-- three words, each of which is known
+pub three_spelled_so : (words : List (List ℕ)) (a b c : List ℕ) → length words ≡ 3 → slice_index_or words 0 [] ≡ a → slice_index_or words 1 [] ≡ b → slice_index_or words 2 [] ≡ c → words ≡ a ∷ b ∷ c ∷ []
+three_spelled_so words a b c len is_a is_b is_c = let all = three_words words len in cc
+
 -- a test that did not fail
 pub passed_test : (b : Bool) → false ≡ not b → b ≡ true
 passed_test true e = refl

@@ -2,6 +2,7 @@ pub mod Answers
 pub mod Walks
 pub mod Commands
 pub mod WalkCommand
+pub mod ShowNshCommand
 pub mod SfcCalls
 pub mod WalkSteps
 pub mod Fronts

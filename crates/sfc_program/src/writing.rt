@@ -50,13 +50,14 @@ impl From<Failed> for WriteFault {
 }
 
 /// Writes all of the bytes.
-fn write_all<D: Desk>(desk: &mut D, port: Port, bytes: &[u8]) -> Result<(), Failed>
+pub(crate) fn write_all<D: Desk>(desk: &mut D, port: Port, bytes: &[u8]) -> Result<(), Failed>
     requires bound { (D.at desk.old port).bound ≡ true }
     requires output { is_input port ≡ false }
     ensures ok { D.tells ≡ true → OnOk result
         ((D.at desk.new port).written ≡ (D.at desk.old port).written ++ bytes.now) }
     ensures front { D.tells ≡ true →
         IsFront (D.at desk.new port).written ((D.at desk.old port).written ++ bytes.now) }
+    ensures grows { D.tells ≡ true → IsFront (D.at desk.old port).written (D.at desk.new port).written }
     ensures cause { OnErr result (Rose (D.at desk.old port) (D.at desk.new port)) }
     ensures later { (D.at desk.old port).faults ≤ (D.at desk.new port).faults }
     ensures still_bound { (D.at desk.new port).bound ≡ true }

@@ -1,0 +1,7 @@
+pub mod Faults
+pub mod Nlris
+pub mod Attributes
+pub mod Updates
+pub mod Refusals
+pub mod Pieces
+pub mod Steps

@@ -1,0 +1,51 @@
+//! The content of a BGP UPDATE, as a value that is exactly its bytes.
+//!
+//! ```text
+//!  [ withdrawn length ][ withdrawn ][ attribute length ][ attribute ][ attribute ] .. [ NLRI ]
+//!                                                        flags kind length value
+//! ```
+//!
+//! The multiprotocol attributes of the service function family (AFI 31, SAFI 9) and the extended communities are read;
+//! all else is kept unread, byte for byte.
+//!
+//! What the layer above uses:
+//!
+//! - `decode_update` answers the value that the bytes spell (`IsUpdate`), or the first fault and its place (`Refused`).
+//! - `encode_update` writes the one spelling of an update, so each undoes the other.
+//! - `Update::broken` is that the first attribute of extended communities is none.
+//! - Two readings of the same bytes are one (`one_reading`).
+//!
+//! It looks into no attribute of another kind, gives no meaning to a route, and does no IO.
+//!
+//! ```text
+//! let update = decode_update(alloc, content)?;
+//! for attribute in update.attributes.as_slice() {
+//!     take(attribute);
+//! }
+//! ```
+#![tactic(auto)]
+
+mod attributes;
+mod bodies;
+mod communities;
+mod decoding;
+mod encoding;
+mod faults;
+mod laws;
+mod nlri_lists;
+mod pieces;
+mod reach;
+mod routes;
+mod updates;
+
+pub use attributes::{Attribute, Body, MpReach, MpUnreach};
+pub use decoding::decode_update;
+pub use encoding::{encode_update, value_of};
+pub use faults::UpdateFault;
+pub use laws::one_reading;
+pub use routes::Nlri;
+pub use updates::Update;
+pub use wire_base::NextHop;
+
+#[cfg(test)]
+mod tests;

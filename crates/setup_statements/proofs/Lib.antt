@@ -1,0 +1,7 @@
+pub mod StepLemmas
+pub mod TextLemmas
+pub mod PairLemmas
+pub mod KeywordLemmas
+pub mod OneLemmas
+pub mod ReadingLemmas
+pub mod PrintingLemmas

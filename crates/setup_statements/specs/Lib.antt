@@ -1,0 +1,4 @@
+pub mod Keywords
+pub mod FunctionText
+pub mod RuleText
+pub mod Statements

@@ -1,0 +1,13 @@
+//! What holds of the texts, whatever prints them.
+
+ghost use Rattle.std.specs.Prelude.{◌≡◌, ℕ, List};
+ghost use Rattle.sfc_texts.specs.NshText.{ShowsNsh};
+
+/// Bytes are shown by one text at most.
+pub fn bytes_are_shown_once()
+    ensures { (bytes s t : List ℕ) → ShowsNsh bytes s → ShowsNsh bytes t → s ≡ t }
+{
+    nsh_metadata::one_header();
+    nsh_metadata::one_refusal();
+    nsh_metadata::spelled_is_not_refused();
+}

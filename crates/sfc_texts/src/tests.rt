@@ -1,0 +1,103 @@
+use super::*;
+use std::test::Fail;
+use wire_base::Bytes;
+
+// TTL 63, 5 words, MD Type 2, Ethernet, SPI 42, SI 255, and an item of class 0123 and type 4 with 5 bytes of
+// body and an odd pad, by the layout of RFC 8300, section 2.
+const ONE_ITEM: [u8; 20] = [
+    0x0F, 0xC5, 0x02, 0x03, 0x00, 0x00, 0x2A, 0xFF, 0x01, 0x23, 0x04, 0x05, 0x11, 0x22, 0x33, 0x44,
+    0x55, 0xAA, 0xBB, 0xCC,
+];
+
+#[test]
+fn one_item_with_an_odd_pad_and_two_bytes_behind_it(rt: HostRuntime) -> Result<(), Fail> {
+    let mut bytes = [0; 22];
+    bytes[..20].copy_from_slice(&ONE_ITEM);
+    let text = nsh_lines(rt.alloc(), &bytes)?;
+    let lines =
+        b"nsh o=0 ttl=63 words=5 md=2 next=ethernet spi=42 si=255 spare=0/0\nitem class=0123 kind=4 spare=0 body=1122334455 pad=aabbcc\npayload 2\n";
+    assert!(rt; text.as_slice() == lines.as_slice());
+    Ok(())
+}
+
+#[test]
+fn every_bit_of_the_first_bytes_is_shown(rt: HostRuntime) -> Result<(), Fail> {
+    // O and the unassigned bits set, TTL 1, 2 words, Next Protocol 6, the greatest SPI, SI 0.
+    let bytes = [0x30, 0x42, 0xF2, 0x06, 0xFF, 0xFF, 0xFF, 0x00];
+    let text = nsh_lines(rt.alloc(), &bytes)?;
+    let lines = b"nsh o=1 ttl=1 words=2 md=2 next=6 spi=16777215 si=0 spare=1/15\npayload 0\n";
+    assert!(rt; text.as_slice() == lines.as_slice());
+    Ok(())
+}
+
+#[test]
+fn the_fixed_context_is_32_digits(rt: HostRuntime) -> Result<(), Fail> {
+    let bytes = [
+        0x0F, 0xC6, 0x01, 0x04, 0x00, 0x00, 0x2A, 0xFF, 0, 1, 2, 3, 4, 5, 6, 7, 8, 9, 10, 11, 12,
+        13, 14, 0xFF,
+    ];
+    let text = nsh_lines(rt.alloc(), &bytes)?;
+    let lines =
+        b"nsh o=0 ttl=63 words=6 md=1 next=nsh spi=42 si=255 spare=0/0\nfixed 000102030405060708090a0b0c0d0eff\npayload 0\n";
+    assert!(rt; text.as_slice() == lines.as_slice());
+    Ok(())
+}
+
+#[test]
+fn an_item_of_no_bytes_has_dashes_and_keeps_its_spare_bit(rt: HostRuntime) -> Result<(), Fail> {
+    let bytes = [
+        0x0F, 0xC4, 0x02, 0xFE, 0x00, 0x00, 0x2A, 0xFF, 0xFF, 0xF6, 0xFF, 0x80, 0x00, 0x00, 0x01,
+        0x00,
+    ];
+    let text = nsh_lines(rt.alloc(), &bytes)?;
+    let lines =
+        b"nsh o=0 ttl=63 words=4 md=2 next=experiment-1 spi=42 si=255 spare=0/0\nitem class=fff6 kind=255 spare=1 body=- pad=-\nitem class=0000 kind=1 spare=0 body=- pad=-\npayload 0\n";
+    assert!(rt; text.as_slice() == lines.as_slice());
+    Ok(())
+}
+
+#[test]
+fn each_next_protocol_has_its_name(rt: HostRuntime) -> Result<(), Fail> {
+    // The names of RFC 8300, section 2.2; 0 and 253 have none.
+    let cases: [(u8, &[u8]); 9] = [
+        (0, b"0"),
+        (1, b"ipv4"),
+        (2, b"ipv6"),
+        (3, b"ethernet"),
+        (4, b"nsh"),
+        (5, b"mpls"),
+        (253, b"253"),
+        (254, b"experiment-1"),
+        (255, b"experiment-2"),
+    ];
+    for (next, name) in cases {
+        let bytes = [0x0F, 0xC2, 0x02, next, 0x00, 0x00, 0x2A, 0xFF];
+        let text = nsh_lines(rt.alloc(), &bytes)?;
+        let mut lines = Bytes::new(rt.alloc());
+        lines.push_all(b"nsh o=0 ttl=63 words=2 md=2 next=")?;
+        lines.push_all(name)?;
+        lines.push_all(b" spi=42 si=255 spare=0/0\npayload 0\n")?;
+        assert!(rt; text.as_slice() == lines.as_slice());
+    }
+    Ok(())
+}
+
+#[test]
+fn a_refusal_is_one_line(rt: HostRuntime) -> Result<(), Fail> {
+    let mut past = ONE_ITEM;
+    past[11] = 0x0A;
+    let cases: [(&[u8], &[u8]); 7] = [
+        (&[], b"refused short 0\n"),
+        (&ONE_ITEM[..19], b"refused short 19\n"),
+        (&[0x4F], b"refused version 1\n"),
+        (&[0x0F, 0xC5, 0x03], b"refused md-type 3\n"),
+        (&[0x0F, 0xC5, 0x01], b"refused length 5\n"),
+        (&[0x0F, 0xC1, 0x02], b"refused length 1\n"),
+        (&past, b"refused context 8\n"),
+    ];
+    for (bytes, line) in cases {
+        let text = nsh_lines(rt.alloc(), bytes)?;
+        assert!(rt; text.as_slice() == line);
+    }
+    Ok(())
+}
