@@ -9,16 +9,16 @@ use crate::rules::{Prefix, Rule};
 use net_frames::Fields;
 use wire_base::NextHop;
 
-/// Whether each part that the rule asks for holds of a field that is there.
+/// Whether each part that the rule asks for holds of a field that is there, the addresses last, which cost most.
 pub(crate) fn is_match(rule: &Rule, fields: &Fields) -> bool
     requires { IsRule rule.now }
     ensures { MatchBool result (Matches rule.now fields.now) (¬ (Matches rule.now fields.now)) }
 {
     has_vlan(rule.vlan, fields.vlan)
-        && has_address(rule.from, fields.source)
-        && has_address(rule.to, fields.destination)
         && has_protocol(rule.protocol, fields.protocol)
         && has_port(rule.ports, fields.to_port)
+        && has_address(&rule.from, &fields.source)
+        && has_address(&rule.to, &fields.destination)
 }
 
 fn has_vlan(asked: Option<u16>, vlan: Option<u16>) -> bool
@@ -31,14 +31,14 @@ fn has_vlan(asked: Option<u16>, vlan: Option<u16>) -> bool
     }
 }
 
-fn has_address(asked: Option<Prefix>, address: Option<NextHop>) -> bool
-    requires { FitsIfAsked IsPrefix asked }
-    ensures { MatchBool result (HoldsIfAsked IsIn asked address) (¬ (HoldsIfAsked IsIn asked address)) }
+fn has_address(asked: &Option<Prefix>, address: &Option<NextHop>) -> bool
+    requires { FitsIfAsked IsPrefix asked.now }
+    ensures { MatchBool result (HoldsIfAsked IsIn asked.now address.now) (¬ (HoldsIfAsked IsIn asked.now address.now)) }
 {
     match (asked, address) {
         (None, _) => true,
         (Some(_), None) => false,
-        (Some(asked), Some(address)) => is_in(&asked, &address),
+        (Some(asked), Some(address)) => is_in(asked, address),
     }
 }
 

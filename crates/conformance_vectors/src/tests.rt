@@ -108,6 +108,20 @@ fn the_bgp_table_holds_of_the_feed_whole_and_in_every_cutting_into_two(
     Ok(())
 }
 
+/// The longest message has 4,096 bytes.
+#[test]
+fn the_longest_update_is_taken_in_every_cutting_into_two(rt: HostRuntime) -> Result<(), Fail> {
+    let mut input = [0u8; 4096];
+    input[..16].fill(0xFF);
+    input[16..19].copy_from_slice(&[0x10, 0, 2]);
+    for cut in 0..=input.len() {
+        let (first, second) = input.split_at(cut);
+        let answer = streamed_answer(rt.alloc(), first, second).ok_or("a whole message")?;
+        assert!(rt; matches!(answer, Expected::Accepted), "at {cut}");
+    }
+    Ok(())
+}
+
 /// The one message that is its header alone.
 static KEEPALIVE: [u8; 19] = [
     0xFF, 0xFF, 0xFF, 0xFF, 0xFF, 0xFF, 0xFF, 0xFF, 0xFF, 0xFF, 0xFF, 0xFF, 0xFF, 0xFF, 0xFF, 0xFF,
