@@ -1,3 +1,4 @@
 pub mod PlacingLemmas
 pub mod KeepingLemmas
 pub mod RunLemmas
+pub mod LawLemmas

@@ -3,6 +3,7 @@
 
 mod drafts;
 mod faults;
+mod laws;
 mod parsing;
 mod placing;
 mod setups;
@@ -10,6 +11,7 @@ mod setups;
 mod tests;
 
 pub use faults::{SetupFault, SetupReason};
+pub use laws::{a_text_has_one_reading, parsing_is_exact};
 pub use parsing::parse_setup;
 pub use setup_statements::Bound;
 pub use setups::Setup;
