@@ -6,3 +6,4 @@ pub mod OneLemmas
 pub mod ReadingLemmas
 pub mod PrintingLemmas
 pub mod StatementLemmas
+pub mod PrintedLemmas

@@ -303,7 +303,7 @@ instance_same i j b c n r k p f =
 abbrev forwarder_of : List ℕ → NextHop → ForwarderEntry
 forwarder_of n a = record { name = n; address = a }
 
-forwarder_same : (f g : ForwarderEntry) → f.name ≡ g.name → f.address ≡ g.address → f ≡ g
+pub forwarder_same : (f g : ForwarderEntry) → f.name ≡ g.name → f.address ≡ g.address → f ≡ g
 forwarder_same f g n a = ap (λ x. forwarder_of x f.address) n ∙ ap (λ x. forwarder_of g.name x) a
 
 one_instance : (i j : InstanceEntry) (b c : Bound) → IsInstance (i, b) → IsInstance (j, c) → instance_words (i, b) ≡ instance_words (j, c) → Instance i b ≡ Instance j c

@@ -2,3 +2,5 @@ pub mod PlacingLemmas
 pub mod KeepingLemmas
 pub mod RunLemmas
 pub mod LawLemmas
+pub mod PrintLemmas
+pub mod SaidLemmas
