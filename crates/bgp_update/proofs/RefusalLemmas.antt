@@ -42,5 +42,9 @@ pub refused_place : (bytes : List ℕ) (place : ℕ) → Refused bytes place →
 refused_place bytes place (inl row) = omega (arith, row.1)
 refused_place bytes place (inr (inl row)) = omega (arith, row.told, opening_length bytes row.withdrawn row.size row.more row.opens)
 refused_place bytes place (inr (inr row)) =
-    omega (arith, attributes_place (4 + length row.withdrawn) row.attributes place row.one,
-      opening_length bytes row.withdrawn (length row.attributes) (row.attributes ++ row.nlri) row.opens, length-append row.attributes row.nlri)
+    omega (
+      arith,
+      attributes_place (4 + length row.withdrawn) row.attributes place row.one,
+      opening_length bytes row.withdrawn (length row.attributes) (row.attributes ++ row.nlri) row.opens,
+      length-append row.attributes row.nlri,
+    )

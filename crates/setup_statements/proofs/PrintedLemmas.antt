@@ -167,12 +167,19 @@ words_are (Forwarder f) h = (name_word f.name h.0, (address_all IsWordByte digit
 words_are (Ingress n) h = (name_word n h, tt)
 words_are (Instance i b) h =
     (name_word i.name h.0, (hex_word i.rd h.1.1, (number_word i.kind (omega (arith, h.2)), (mode_word b.proxy, function_are b.function h.3))))
-words_are (Rule r) h =
-    (star_word (λ v. v ≤ 4095) decimal (λ v most. number_word v (omega (arith, most))) r.vlan h.vlan,
-    (star_word IsPrefix prefix_text prefix_word r.from h.from_fits,
-    (star_word IsPrefix prefix_text prefix_word r.to h.to_fits,
-    (star_word (λ p. p ≤ 255) protocol_text named_word r.protocol h.protocol,
-    (star_word IsPorts ports_text ports_word r.ports h.ports, action_are r.action h.action)))))
+words_are (Rule r) h = (
+  star_word (λ v. v ≤ 4095) decimal (λ v most. number_word v (omega (arith, most))) r.vlan h.vlan,
+  (
+    star_word IsPrefix prefix_text prefix_word r.from h.from_fits,
+    (
+      star_word IsPrefix prefix_text prefix_word r.to h.to_fits,
+      (
+        star_word (λ p. p ≤ 255) protocol_text named_word r.protocol h.protocol,
+        (star_word IsPorts ports_text ports_word r.ports h.ports, action_are r.action h.action),
+      ),
+    ),
+  ),
+)
 
 keyword_word : (k : Keyword) → IsWord (keyword_text k)
 keyword_word keyword.Local = literal (codes "local") refl

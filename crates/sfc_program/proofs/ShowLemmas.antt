@@ -1,5 +1,5 @@
 -- The answers of `show`: what the words say is determined, and causes of different answers exclude each other.
-use Rattle.std.proofs.Common.{◌≡◌, ◌≢◌, inl, inr, ℕ, ◌<◌, ◌≤◌, Bool, true, List, [], ◌∷◌, ◌++◌, Option, Some, None, length, codes, refl, sym, ap, ◌∙◌, subst, arith}
+use Rattle.std.proofs.Common.{◌≡◌, ◌≢◌, inl, inr, ℕ, ◌<◌, ◌≤◌, Bool, true, List, [], ◌∷◌, ◌++◌, get_or, Option, Some, None, length, codes, refl, sym, ap, ◌∙◌, subst, arith}
 use Rattle.sfc_desk.specs.declared.ports.Port.{Port}
 use Rattle.sfc_desk.specs.declared.ports.Port.TheVariants as ports
 use Rattle.sfc_desk.specs.Desks.{Shown, Files, Rose}
@@ -73,11 +73,14 @@ asked_is_answered show tells held then now (Long port) (File other) runs wants t
     let there = (runs.1 told).has.there in let absent = wants.1 in cc
 asked_is_answered show tells held then now (Long port) _ runs wants told none some = absurd wants
 
+nsh_is_not_bgp : codes "nsh" ≡ codes "bgp" → ⊥
+nsh_is_not_bgp e = let first : 110 ≡ 98 = ap (λ word. get_or word 0 0) e in absurd (omega (arith, first))
+
 -- a word names one format
 one_format : (f g : Format) → format_word f ≡ format_word g → f ≡ g
 one_format Nsh Nsh e = refl
-one_format Nsh Bgp e = cc
-one_format Bgp Nsh e = cc
+one_format Nsh Bgp e = absurd (nsh_is_not_bgp e)
+one_format Bgp Nsh e = absurd (nsh_is_not_bgp (sym e))
 one_format Bgp Bgp e = refl
 
 -- what words say is a format and a source
