@@ -37,7 +37,6 @@ mod statements;
 mod tests;
 
 pub use crossing::types_cross_threads;
-pub use function_text::read_function;
 pub use keywords::Keyword;
 pub use laws::{a_line_spells_one_statement, a_printed_line_is_read_again};
 pub use printing::{
