@@ -145,6 +145,21 @@ impl BgpFeed {
         }
     }
 
+    /// The bytes that are not used up.
+    pub fn rest(&self) -> &[u8]
+        ensures { result.now ≡ self.now.rest }
+    {
+        &self.held.as_slice()[self.start..]
+    }
+
+    /// How many bytes of the stream are used up.
+    pub fn place(&self) -> u64
+        ensures value { result ≡ self.now.place }
+        ensures range { self.now.place + length self.now.rest < 2 ^ 64 }
+    {
+        self.place
+    }
+
     /// The next message of the stream; `None` is "not yet".
     pub fn next(&mut self) -> Result<Option<Message>, NextFault>
         ensures first { self.old.stop ≡ None → First self.old self.new result }

@@ -5,3 +5,4 @@ pub mod NlriReadings
 pub mod BodyReadings
 pub mod UpdateReadings
 pub mod ExactLemmas
+pub mod RefusalLemmas

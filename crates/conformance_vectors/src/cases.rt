@@ -1,6 +1,7 @@
 //! What a table is made of.
 
 use bgp_messages::Refusal;
+use bgp_update::UpdateFault;
 use nsh_headers::NshFault;
 
 /// What a decoder answers to an input.
@@ -12,6 +13,8 @@ pub enum Expected {
     Nsh(NshFault),
     /// A stream of BGP messages that is refused so.
     Bgp(Refusal),
+    /// The content of an UPDATE with this fault.
+    Update(UpdateFault),
 }
 
 /// An input and the answer to it.

@@ -1,5 +1,6 @@
 use super::*;
 use bgp_messages::{BgpFeed, Message, NextFault, Refusal};
+use bgp_update::{decode_update, encode_update};
 use nsh_headers::NshFault;
 use nsh_metadata::{NshFeed, NshStep, decode_nsh};
 use std::alloc::Global;
@@ -12,6 +13,7 @@ fn is_same(answer: &Expected, expected: &Expected) -> bool {
         (Expected::Accepted, Expected::Accepted) => true,
         (Expected::Nsh(fault), Expected::Nsh(other)) => fault == other,
         (Expected::Bgp(refusal), Expected::Bgp(other)) => is_same_refusal(refusal, other),
+        (Expected::Update(fault), Expected::Update(other)) => fault == other,
         _ => false,
     }
 }
@@ -154,5 +156,32 @@ fn a_keepalive_in_single_bytes_and_then_a_length_of_18(rt: HostRuntime) -> Resul
     expect_length_18_at_35(&rt, feed.next());
     feed.push(&KEEPALIVE)?;
     expect_length_18_at_35(&rt, feed.next());
+    Ok(())
+}
+
+/// What the decoder of contents answers.
+fn content_answer(alloc: Global, content: &[u8]) -> Expected {
+    match decode_update(alloc, content) {
+        Ok(_) => Expected::Accepted,
+        Err(fault) => Expected::Update(fault),
+    }
+}
+
+#[test]
+fn the_update_table_holds_of_the_decoder(rt: HostRuntime) {
+    for case in &update_cases().cases {
+        let answer = content_answer(rt.alloc(), case.input);
+        assert!(rt; is_same(&answer, &case.answer), "{}", case.name);
+    }
+}
+
+#[test]
+fn what_the_update_table_accepts_is_written_again(rt: HostRuntime) -> Result<(), Fail> {
+    for case in &update_cases().cases {
+        if let Ok(update) = decode_update(rt.alloc(), case.input) {
+            let bytes = encode_update(rt.alloc(), &update)?;
+            assert!(rt; bytes.as_slice() == case.input, "{}", case.name);
+        }
+    }
     Ok(())
 }

@@ -5,3 +5,5 @@ pub mod KeywordLemmas
 pub mod OneLemmas
 pub mod ReadingLemmas
 pub mod PrintingLemmas
+pub mod StatementLemmas
+pub mod PrintedLemmas

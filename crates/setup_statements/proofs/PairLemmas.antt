@@ -45,20 +45,30 @@ letter_is_no_slash c low high = grind (arith, nat_tests)
 bits_fit : (p : Prefix) → IsPrefix p → p.bits < 2 ^ 64
 bits_fit p h = grind arith
 
+-- the parts of a network
+pub cut_of_prefix : (p : Prefix) → IsPrefix p → pieces_of 47 (prefix_text p) ≡ prefix_parts p
+cut_of_prefix p fits =
+    cut_of_two 47 _ _
+    (address_all (λ b. (b == 47) ≡ false) digit_is_no_slash letter_is_no_slash (grind arith) p.address fits.0)
+    (decimal-lacks 47 p.bits (omega arith) (bits_fit p fits))
+
+-- the parts of a range of ports
+pub cut_of_ports : (p : ℕ × ℕ) → IsPorts p → pieces_of 45 (ports_text p) ≡ ports_parts p
+cut_of_ports p fits =
+    cut_of_two 45 _ _
+    (decimal-lacks 45 p.0 (omega arith) (omega (arith, fits)))
+    (decimal-lacks 45 p.1 (omega arith) (omega (arith, fits)))
+
 -- a network is cut at its slash
 pub reads_prefix : (word : List ℕ) (r : Option Prefix) → Reads IsPrefix prefix_parts (pieces_of 47 word) r → Reads IsPrefix prefix_text word r
 reads_prefix word r h =
     reads_cut IsPrefix prefix_parts prefix_text 47 word r
-    (λ p fits. cut_of_two 47 _ _
-    (address_all (λ b. (b == 47) ≡ false) digit_is_no_slash letter_is_no_slash (grind arith) p.address fits.0)
-    (decimal-lacks 47 p.bits (omega arith) (bits_fit p fits)))
+    cut_of_prefix
     (λ p e. joined_two 47 word _ _ e) h
 
 -- a range of ports is cut at its dash
 pub reads_ports : (word : List ℕ) (r : Option (ℕ × ℕ)) → Reads IsPorts ports_parts (pieces_of 45 word) r → Reads IsPorts ports_text word r
 reads_ports word r h =
     reads_cut IsPorts ports_parts ports_text 45 word r
-    (λ p fits. cut_of_two 45 _ _
-    (decimal-lacks 45 p.0 (omega arith) (omega (arith, fits)))
-    (decimal-lacks 45 p.1 (omega arith) (omega (arith, fits))))
+    cut_of_ports
     (λ p e. joined_two 45 word _ _ e) h

@@ -70,7 +70,7 @@ identifier_is id octets bytes h same is =
     let all : take 4 octets ≡ octets = ap (take 4) f.is ∙ sym f.is in
     ap octets_of (is ∙ ap (λ b. big_endian (take 4 b)) same ∙ ap big_endian all) ∙ octets_back octets h
 
-local_is : (v : LocalSide) (a i h : ℕ) → a ≡ v.asn → i ≡ v.id → h ≡ v.hold → v ≡ local_side a i h
+pub local_is : (v : LocalSide) (a i h : ℕ) → a ≡ v.asn → i ≡ v.id → h ≡ v.hold → v ≡ local_side a i h
 local_is v a i h p q r =
     ap (λ x. local_side x v.id v.hold) (sym p) ∙ ap (λ y. local_side a y v.hold) (sym q) ∙ ap (local_side a i) (sym r)
 

@@ -222,7 +222,7 @@ fn read_told(kind: FunctionWord, words: &mut Pieces) -> Option<Function>
 }
 
 /// Reads a function from its words, all of them.
-pub fn read_function(words: &mut Pieces) -> Option<Function>
+pub(crate) fn read_function(words: &mut Pieces) -> Option<Function>
     ensures { Reads IsFunction function_words words.old result }
 {
     let Some(word) = words.next() else {

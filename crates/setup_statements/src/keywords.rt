@@ -66,21 +66,6 @@ impl Keyword {
         }
         None
     }
-
-    /// The word.
-    pub fn text(self) -> &'static [u8]
-        ensures { result.now ≡ keyword_text self }
-    {
-        match self {
-            Keyword::Local => b"local",
-            Keyword::Target => b"target",
-            Keyword::Peer => b"peer",
-            Keyword::Forwarder => b"forwarder",
-            Keyword::Ingress => b"ingress",
-            Keyword::Instance => b"instance",
-            Keyword::Rule => b"rule",
-        }
-    }
 }
 
 impl FunctionWord {

@@ -28,6 +28,7 @@
 mod crossing;
 mod function_text;
 mod keywords;
+mod laws;
 mod printing;
 mod reading;
 mod rule_text;
@@ -36,8 +37,8 @@ mod statements;
 mod tests;
 
 pub use crossing::types_cross_threads;
-pub use function_text::read_function;
 pub use keywords::Keyword;
+pub use laws::{a_line_spells_one_statement, a_printed_line_is_read_again};
 pub use printing::{
     print_forwarder, print_ingress, print_instance, print_local, print_peer, print_rule,
     print_target,

@@ -226,7 +226,9 @@ fn refuses_words_that_show_nothing(rt: HostRuntime) -> Result<(), Fail> {
         "show",
         "show nsh",
         "show nsh a b",
-        "show bgp x",
+        "show bgp",
+        "show bgp a b",
+        "show bytes x",
         "nsh show K",
     ] {
         // a bind would fail, and no call is made
@@ -288,5 +290,56 @@ fn a_header_is_shown_in_pieces_of_any_size(rt: HostRuntime) -> Result<(), Fail> 
             "in pieces of {piece}"
         );
     }
+    Ok(())
+}
+
+// A KEEPALIVE and one byte (RFC 4271, section 4.4).
+const KEEPALIVE: [u8; 20] = [
+    0xFF, 0xFF, 0xFF, 0xFF, 0xFF, 0xFF, 0xFF, 0xFF, 0xFF, 0xFF, 0xFF, 0xFF, 0xFF, 0xFF, 0xFF, 0xFF,
+    0, 19, 4, 0xFF,
+];
+
+// An OPEN of AS 65001 with the service function family and the AS of 4 bytes, and an UPDATE that announces an instance, by hand
+// after RFC 4271, section 4, and RFC 4760, section 3.
+const ANNOUNCED: [u8; 105] = [
+    0xFF, 0xFF, 0xFF, 0xFF, 0xFF, 0xFF, 0xFF, 0xFF, 0xFF, 0xFF, 0xFF, 0xFF, 0xFF, 0xFF, 0xFF, 0xFF,
+    0, 43, 1, 4, 0xFD, 0xE9, 0, 90, 0, 0, 0, 1, 14, 2, 12, 1, 4, 0, 31, 0, 9, 65, 4, 0, 0, 0xFD,
+    0xE9, 0xFF, 0xFF, 0xFF, 0xFF, 0xFF, 0xFF, 0xFF, 0xFF, 0xFF, 0xFF, 0xFF, 0xFF, 0xFF, 0xFF, 0xFF,
+    0xFF, 0, 62, 2, 0, 0, 0, 39, 0x40, 1, 1, 0, 0x40, 2, 6, 2, 1, 0, 0, 0xFD, 0xE9, 0x80, 14, 23,
+    0, 31, 9, 4, 10, 0, 0, 2, 0, 0, 1, 0, 10, 0, 0, 0xFD, 0xE8, 0, 0, 0, 1, 0, 41,
+];
+
+#[test]
+fn a_stream_of_messages_is_shown(rt: HostRuntime) -> Result<(), Fail> {
+    let lines =
+        b"open as=65001 hold=90 id=0.0.0.1 capabilities=1:001f0009,65:0000fde9\nupdate\nattribute 40 origin 00\nattribute 40 as-path 02010000fde9\nattribute 80 mp-reach 001f09040a000002000001000a0000fde8000000010029\n";
+    let cases: [(&[u8], &[u8]); 3] = [
+        (&KEEPALIVE, b"keepalive\nrest 1\n"),
+        (&ANNOUNCED, lines),
+        (&[], b""),
+    ];
+    for (bytes, text) in cases {
+        let mut desk = desk_of(rt.alloc(), bytes, &[])?;
+        let words = words_of(rt.alloc(), "show bgp K")?;
+        let status = sfc_call(rt.alloc(), &words, &mut desk, &OpenGate);
+        assert_eq!(rt; status, Status::Ok);
+        assert!(rt; desk.output(Port::Report) == text);
+    }
+    Ok(())
+}
+
+#[test]
+fn an_update_that_is_refused_has_one_line(rt: HostRuntime) -> Result<(), Fail> {
+    // the next hop's length is 5: the attribute begins 36 bytes behind the first byte of the message, which is at 43
+    let mut bad = ANNOUNCED;
+    bad[85] = 5;
+    let mut desk = desk_of(rt.alloc(), &bad, &[])?;
+    let words = words_of(rt.alloc(), "show bgp K")?;
+    let status = sfc_call(rt.alloc(), &words, &mut desk, &OpenGate);
+    assert_eq!(rt; status, Status::Ok);
+    assert!(rt;
+        desk.output(Port::Report)
+            == b"open as=65001 hold=90 id=0.0.0.1 capabilities=1:001f0009,65:0000fde9\nrefused 3 1 79\n".as_slice()
+    );
     Ok(())
 }

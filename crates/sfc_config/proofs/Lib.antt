@@ -1,3 +1,6 @@
 pub mod PlacingLemmas
 pub mod KeepingLemmas
 pub mod RunLemmas
+pub mod LawLemmas
+pub mod PrintLemmas
+pub mod SaidLemmas

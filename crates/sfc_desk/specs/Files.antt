@@ -1,5 +1,5 @@
 -- A desk over files: its twelve ports in their order, of which it tells what is bound and the counts.
-use Rattle.std.specs.Prelude.{◌≡◌, refl, Bool, true, false, List, [], Option, Some, None, is_some, slice_get}
+use Rattle.std.specs.Prelude.{◌≡◌, refl, true, false, List, [], Option, Some, None, is_some, slice_get}
 use Rattle.std.specs.Option.{option_map_or}
 use Rattle.sfc_desk.specs.declared.files.FileSlot.{FileSlot}
 use Rattle.sfc_desk.specs.declared.ports.Port.{Port}

@@ -7,5 +7,5 @@ pub mod PieceLemmas
 pub mod PacketLemmas
 pub mod WalkRunLemmas
 pub mod WalkAnswerLemmas
-pub mod ShowNshLemmas
+pub mod ShowLemmas
 pub mod SfcCallLemmas

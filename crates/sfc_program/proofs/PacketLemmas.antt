@@ -1,7 +1,7 @@
 -- Frames and their ends one by one, and what stands behind what was written.
-use Rattle.std.proofs.Common.{◌≡◌, ℕ, ◌+◌, ◌<◌, suc, List, [], ◌∷◌, ◌++◌, length, take, drop, slice_index_or, append_assoc, refl, sym, ap, ◌∙◌, subst}
+use Rattle.std.proofs.Common.{◌≡◌, ℕ, ◌+◌, ◌<◌, suc, List, [], ◌∷◌, ◌++◌, length, drop, slice_index_or, append_assoc, refl, ap, ◌∙◌}
 use Rattle.std.specs.List.{AllZip}
-use Rattle.std.proofs.lemmas.List.{drop_more, take_more}
+use Rattle.std.proofs.lemmas.List.{drop_more}
 use Rattle.pcap_io.specs.declared.forms.Form.{Form}
 use Rattle.pcap_io.specs.declared.frames.Captured.{Captured}
 use Rattle.sfc_program.specs.declared.walks.End.{End}

@@ -1,5 +1,5 @@
 -- From the call of a row to the call of all commands, a case for each row.
-use Rattle.std.proofs.Common.{◌≡◌, ◌≢◌, ◌↔◌, ℕ, Bool, true, List, refl, sym, ap, ◌∙◌, subst}
+use Rattle.std.proofs.Common.{◌≡◌, ◌≢◌, ◌↔◌, ℕ, Bool, true, List, refl, sym, ap, subst}
 use Rattle.sfc_desk.specs.declared.ports.Port.{Port}
 use Rattle.sfc_desk.specs.Desks.{Shown, Files}
 use Rattle.sfc_program.specs.declared.sfc_calls.Row.{Row}
@@ -7,16 +7,16 @@ use Rattle.sfc_program.specs.declared.sfc_calls.Row.TheVariants as row
 use Rattle.sfc_program.specs.declared.statuses.Status.{Status}
 use Rattle.sfc_program.specs.declared.statuses.Status.TheVariants as status
 use Rattle.sfc_program.specs.Commands.{NoneRose}
-use Rattle.sfc_program.specs.WalkCommand.{Walk, IsWalk, WalkRuns, WalkWants}
-use Rattle.sfc_program.specs.ShowNshCommand.{ShowNsh, IsShowNsh, ShowNshRuns, ShowNshWants}
-use Rattle.sfc_program.specs.SfcCalls.{Command, walk, show_nsh, Spells, Runs, Wants, RowCall, row_of}
+use Rattle.sfc_program.specs.WalkCommand.{Walk, IsWalk}
+use Rattle.sfc_program.specs.ShowCommand.{Show, IsShow}
+use Rattle.sfc_program.specs.SfcCalls.{Command, walk, show, Spells, Runs, Wants, RowCall, row_of}
 
 -- the words of a command pick its row
 walk_row : (words : List (List ℕ)) (said : Walk) → IsWalk words said → row_of words ≡ row.Walk
 walk_row words said is = ap row_of is.spelled
 
-show_nsh_row : (words : List (List ℕ)) (said : ShowNsh) → IsShowNsh words said → row_of words ≡ row.ShowNsh
-show_nsh_row words said is = ap row_of is.spelled
+show_row : (words : List (List ℕ)) (said : Show) → IsShow words said → row_of words ≡ row.Show
+show_row words said is = ap row_of is.spelled
 
 -- what the call of a row says, said of all commands
 pub record AllCommands (words : List (List ℕ)) (tells : Bool) (held : Files) (then now : Port → Shown) (answer : Status) : Type 0 where
@@ -28,16 +28,16 @@ pub record AllCommands (words : List (List ℕ)) (tells : Bool) (held : Files) (
 -- words that pick no row spell no command
 unknown_spells_none : (words : List (List ℕ)) (command : Command) → row_of words ≡ row.Unknown → Spells words command → ⊥
 unknown_spells_none words (walk said) picked is = let other : row_of words ≡ row.Walk = walk_row words said is in cc
-unknown_spells_none words (show_nsh said) picked is = let other : row_of words ≡ row.ShowNsh = show_nsh_row words said is in cc
+unknown_spells_none words (show said) picked is = let other : row_of words ≡ row.Show = show_row words said is in cc
 
 -- words that pick a row spell that row's command alone
 spells_walk : (words : List (List ℕ)) (command : Command) → row_of words ≡ row.Walk → Spells words command → (said : Walk) × (command ≡ walk said) × IsWalk words said
 spells_walk words (walk said) picked is = (said, refl, is)
-spells_walk words (show_nsh said) picked is = let other : row_of words ≡ row.ShowNsh = show_nsh_row words said is in cc
+spells_walk words (show said) picked is = let other : row_of words ≡ row.Show = show_row words said is in cc
 
-spells_show_nsh : (words : List (List ℕ)) (command : Command) → row_of words ≡ row.ShowNsh → Spells words command → (said : ShowNsh) × (command ≡ show_nsh said) × IsShowNsh words said
-spells_show_nsh words (walk said) picked is = let other : row_of words ≡ row.Walk = walk_row words said is in cc
-spells_show_nsh words (show_nsh said) picked is = (said, refl, is)
+spells_show : (words : List (List ℕ)) (command : Command) → row_of words ≡ row.Show → Spells words command → (said : Show) × (command ≡ show said) × IsShow words said
+spells_show words (walk said) picked is = let other : row_of words ≡ row.Walk = walk_row words said is in cc
+spells_show words (show said) picked is = (said, refl, is)
 
 pub of_row : (picked : Row) (words : List (List ℕ)) (tells : Bool) (held : Files) (then now : Port → Shown) (answer : Status) → row_of words ≡ picked → RowCall picked words tells held then now answer → AllCommands words tells held then now answer
 of_row row.Walk words tells held then now answer is call = record {
@@ -53,17 +53,17 @@ of_row row.Walk words tells held then now answer is call = record {
       let one = spells_walk words command is spells in
       call.exact one.0 wanted one.2 (subst (λ (c : Command). Wants c held wanted) one.1 wants) told none some;
 }
-of_row row.ShowNsh words tells held then now answer is call = record {
+of_row row.Show words tells held then now answer is call = record {
   words_fault = (
-    (λ refused command spells. let one = spells_show_nsh words command is spells in call.words_fault.0 refused one.0 one.2),
-    λ none. call.words_fault.1 (λ said is_said. none (show_nsh said) is_said),
+    (λ refused command spells. let one = spells_show words command is spells in call.words_fault.0 refused one.0 one.2),
+    λ none. call.words_fault.1 (λ said is_said. none (show said) is_said),
   );
   runs = λ command spells.
-      let one = spells_show_nsh words command is spells in
+      let one = spells_show words command is spells in
       subst (λ (c : Command). Runs c tells held then now answer) (sym one.1) (call.runs one.0 one.2);
   untouched = call.untouched;
   exact = λ command wanted spells wants told none some.
-      let one = spells_show_nsh words command is spells in
+      let one = spells_show words command is spells in
       call.exact one.0 wanted one.2 (subst (λ (c : Command). Wants c held wanted) one.1 wants) told none some;
 }
 of_row row.Unknown words tells held then now answer is call = record {

@@ -1,9 +1,9 @@
 -- The answers of `walk`: what the words say is determined, and causes of different answers exclude each other.
-use Rattle.std.proofs.Common.{◌≡◌, ◌≢◌, ◌⊎◌, inl, inr, ℕ, ◌<◌, ◌≤◌, Bool, true, false, List, [], ◌∷◌, Option, Some, None, length, codes, decimal, refl, sym, ap, ◌∙◌, subst, arith}
+use Rattle.std.proofs.Common.{◌≡◌, ◌≢◌, inl, inr, ℕ, ◌<◌, Bool, true, List, [], ◌∷◌, Option, Some, None, length, codes, decimal, refl, sym, ap, ◌∙◌, subst, arith}
 use Rattle.std.proofs.lemmas.Fmt.{decimal_injective}
 use Rattle.sfc_desk.specs.declared.ports.Port.{Port}
 use Rattle.sfc_desk.specs.declared.ports.Port.TheVariants as ports
-use Rattle.sfc_desk.specs.Desks.{Shown, Files, Rose, IsAbsent}
+use Rattle.sfc_desk.specs.Desks.{Shown, Files}
 use Rattle.sfc_desk.specs.Ports.{is_input}
 use Rattle.pcap_io.specs.Captures.{IsCapture, plain_form}
 use Rattle.sfc_program.specs.declared.statuses.CaptureReason.{CaptureReason}
@@ -11,7 +11,7 @@ use Rattle.sfc_program.specs.declared.statuses.CaptureReason.TheVariants.{Form}
 use Rattle.sfc_program.specs.declared.statuses.Status.{Status}
 use Rattle.sfc_program.specs.declared.statuses.Status.TheVariants.{Ok, Words, File, Capture, Memory, Long}
 use Rattle.sfc_program.specs.Commands.{FailsAs, NoneRose}
-use Rattle.sfc_program.specs.WalkCommand.{Walk, IsWalk, WalkRuns, WalkWants, WalkFinished, WalkRefused, WalkLong, HasInput, HasLong, IsNoCapture, walk_names, capture_limit}
+use Rattle.sfc_program.specs.WalkCommand.{Walk, IsWalk, WalkRuns, WalkWants, HasInput, HasLong, IsNoCapture, walk_names, capture_limit}
 
 -- there is one reason
 one_reason : (a b : CaptureReason) → a ≡ b

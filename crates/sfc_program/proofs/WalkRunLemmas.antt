@@ -1,9 +1,9 @@
 -- From the steps of `walk` to what its answers say.
-use Rattle.std.proofs.Common.{◌≡◌, ◌≢◌, ◌⊎◌, inl, inr, ℕ, ◌+◌, ◌≤◌, Bool, true, false, List, [], ◌++◌, Result, Ok, Err, is_err, OnOk, Option, Some, None, length, refl, sym, ap, ◌∙◌, subst, arith}
+use Rattle.std.proofs.Common.{◌≡◌, ◌⊎◌, inl, inr, ℕ, ◌≤◌, Bool, true, false, List, [], ◌++◌, Result, Ok, Err, is_err, OnOk, Some, length, refl, sym, ap, ◌∙◌, subst, arith}
 use Rattle.std.specs.List.{AllZip}
 use Rattle.sfc_desk.specs.declared.ports.Port.{Port}
 use Rattle.sfc_desk.specs.declared.ports.Port.TheVariants.{Setup, Capture, Control, Records, Routes, Source, Egress, Lines, Replies, Trace, Made, Report}
-use Rattle.sfc_desk.specs.Desks.{Shown, Files, Rose, IsAbsent}
+use Rattle.sfc_desk.specs.Desks.{Shown, Files, Rose}
 use Rattle.pcap_io.specs.declared.frames.Captured.{Captured}
 use Rattle.pcap_io.specs.Captures.{IsCapture, plain_form}
 use Rattle.sfc_program.specs.declared.statuses.Status.{Status}
@@ -12,7 +12,7 @@ use Rattle.sfc_program.specs.declared.walks.End.{End}
 use Rattle.sfc_program.specs.declared.walks.StaticPath.{StaticPath}
 use Rattle.sfc_program.specs.Commands.{FailsAs}
 use Rattle.sfc_program.specs.Fronts.{IsFront}
-use Rattle.sfc_program.specs.WalkCommand.{Walk, WalksOf, WalkDone, WalkFinished, WalkRuns, HasInput, HoldsFront, not_bound, not_opened, empty, front, walk_names, capture_limit, egress_of}
+use Rattle.sfc_program.specs.WalkCommand.{Walk, WalksOf, WalkDone, WalkFinished, WalkRuns, HoldsFront, not_bound, not_opened, empty, front, walk_names, capture_limit, egress_of}
 use Rattle.sfc_program.specs.WalkSteps.{EndsOf}
 use Rattle.sfc_program.specs.Walks.{WalksTo}
 use Rattle.sfc_program.proofs.FrontLemmas.{front_of_same}

@@ -1,5 +1,5 @@
 -- Words are text, and every word of a list of texts is one.
-use Rattle.std.proofs.Common.{◌≡◌, ◌≢◌, ℕ, ◌<◌, ◌==◌, length, slice_index_or, arith, Bool, true, false, not, bytes_eq, List, [], ◌∷◌, ◌++◌, Result, Ok, Err, IsOk, MatchResult, IsUtf8, refl}
+use Rattle.std.proofs.Common.{◌≡◌, ◌≢◌, ℕ, ◌==◌, length, slice_index_or, arith, Bool, true, false, not, bytes_eq, List, [], ◌∷◌, ◌++◌, Result, Ok, Err, IsOk, MatchResult, IsUtf8, refl}
 use Rattle.std.specs.List.{All}
 use Rattle.std.proofs.lemmas.Slice.Eq.{bytes_eq-Decides}
 use Rattle.std.proofs.lemmas.List.Elements.{All-append, All-cons, All-nil}

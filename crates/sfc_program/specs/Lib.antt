@@ -2,7 +2,8 @@ pub mod Answers
 pub mod Walks
 pub mod Commands
 pub mod WalkCommand
-pub mod ShowNshCommand
+pub mod ShowCommand
+pub mod ShowSteps
 pub mod SfcCalls
 pub mod WalkSteps
 pub mod Fronts

@@ -7,43 +7,38 @@ use Rattle.sfc_program.specs.declared.sfc_calls.Row.TheVariants as row
 use Rattle.sfc_program.specs.declared.statuses.Status.{Status}
 use Rattle.sfc_program.specs.declared.statuses.Status.TheVariants as status
 use Rattle.sfc_program.specs.WalkCommand.{Walk, IsWalk, WalkRuns, WalkWants, WalkCall}
-use Rattle.sfc_program.specs.ShowNshCommand.{ShowNsh, IsShowNsh, ShowNshRuns, ShowNshWants, ShowNshCall}
+use Rattle.sfc_program.specs.ShowCommand.{Show, IsShow, ShowRuns, ShowWants, ShowCall}
 
 -- a command with what its words say
 pub data Command : Type 0 where
   walk : Walk → Command
-  show_nsh : ShowNsh → Command
+  show : Show → Command
 
 -- the words spell the command
 abbrev pub Spells : List (List ℕ) → Command → Type 0
 Spells words (walk said) = IsWalk words said
-Spells words (show_nsh said) = IsShowNsh words said
+Spells words (show said) = IsShow words said
 
 -- what each answer says
 abbrev pub Runs : Command → Bool → Files → (Port → Shown) → (Port → Shown) → Status → Type 0
 Runs (walk said) tells held old new answer = WalkRuns said tells held old new answer
-Runs (show_nsh said) tells held old new answer = ShowNshRuns said tells held old new answer
+Runs (show said) tells held old new answer = ShowRuns said tells held old new answer
 
 -- what the files ask for
 abbrev pub Wants : Command → Files → Status → Type 0
 Wants (walk said) held answer = WalkWants said held answer
-Wants (show_nsh said) held answer = ShowNshWants said held answer
+Wants (show said) held answer = ShowWants said held answer
 
--- the row of `show` that the second word picks
-abbrev pub show_row_of : List (List ℕ) → Row
-show_row_of [] = row.Unknown
-show_row_of (word ∷ words) = if bytes_eq word (codes "nsh") then row.ShowNsh else row.Unknown
-
--- the row of the commands that the first words pick
+-- the row of the commands that the first word picks
 abbrev pub row_of : List (List ℕ) → Row
 row_of [] = row.Unknown
 row_of (word ∷ words) =
     if bytes_eq word (codes "walk") then row.Walk
-    else if bytes_eq word (codes "show") then show_row_of words
+    else if bytes_eq word (codes "show") then row.Show
     else row.Unknown
 
 -- what the call of a row says
 abbrev pub RowCall : Row → List (List ℕ) → Bool → Files → (Port → Shown) → (Port → Shown) → Status → Type 0
 RowCall row.Walk words tells held old new answer = WalkCall words tells held old new answer
-RowCall row.ShowNsh words tells held old new answer = ShowNshCall words tells held old new answer
+RowCall row.Show words tells held old new answer = ShowCall words tells held old new answer
 RowCall row.Unknown words tells held old new answer = (answer ≡ status.Words) × ((port : Port) → new port ≡ old port)

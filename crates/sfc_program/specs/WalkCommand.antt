@@ -1,5 +1,5 @@
 -- `walk SPI COUNT CAPTURE EGRESS`: each frame of a capture over a static path, and what comes out.
-use Rattle.std.specs.Prelude.{◌≡◌, ◌≢◌, ◌↔◌, ℕ, ◌+◌, ◌^◌, ◌<◌, ◌≤◌, Bool, true, false, List, [], ◌∷◌, ◌++◌, Option, Some, None, length, codes, decimal}
+use Rattle.std.specs.Prelude.{◌≡◌, ◌≢◌, ◌↔◌, ℕ, ◌^◌, ◌<◌, ◌≤◌, Bool, true, false, List, [], ◌∷◌, ◌++◌, Some, None, length, codes, decimal}
 use Rattle.std.specs.List.{AllZip}
 use Rattle.sfc_desk.specs.declared.ports.Port.{Port}
 use Rattle.sfc_desk.specs.declared.ports.Port.TheVariants as ports
@@ -8,7 +8,6 @@ use Rattle.pcap_io.specs.declared.forms.Form.{Form}
 use Rattle.pcap_io.specs.declared.frames.Captured.{Captured}
 use Rattle.pcap_io.specs.Captures.{IsCapture, packet, plain_form}
 use Rattle.pcap_io.specs.Heads.{file_head}
-use Rattle.sfc_program.specs.declared.statuses.CaptureReason.TheVariants.{Form as NotPlain}
 use Rattle.sfc_program.specs.declared.statuses.Status.{Status}
 use Rattle.sfc_program.specs.declared.statuses.Status.TheVariants as status
 use Rattle.sfc_program.specs.declared.walks.End.{End}

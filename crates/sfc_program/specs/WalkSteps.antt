@@ -1,8 +1,7 @@
 -- What the parts of `walk` do to the desk, from the words as the program keeps them to the egress.
-use Rattle.std.specs.Prelude.{◌≡◌, ◌⊎◌, ◌<◌, ◌≤◌, ℕ, Bool, true, List, [], ◌++◌, Result, Ok, Err, Some, length}
+use Rattle.std.specs.Prelude.{◌≡◌, ◌⊎◌, ◌<◌, ◌≤◌, Bool, true, List, [], ◌++◌, Result, Ok, Err, length}
 use Rattle.std.specs.List.{AllByRecursion, AllZip}
-use Rattle.sfc_desk.specs.Desks.{Shown, Files, Rose}
-use Rattle.sfc_desk.specs.declared.ports.Port.{Port}
+use Rattle.sfc_desk.specs.Desks.{Shown, Rose}
 use Rattle.sfc_desk.specs.declared.ports.Port.TheVariants as ports
 use Rattle.pcap_io.specs.declared.frames.Captured.{Captured}
 use Rattle.pcap_io.specs.Captures.{IsCapture, IsWithinLimits, plain_form}
@@ -13,7 +12,7 @@ use Rattle.sfc_program.specs.declared.walks.End.{End}
 use Rattle.sfc_program.specs.declared.walks.StaticPath.{StaticPath}
 use Rattle.sfc_program.specs.declared.writing.WriteFault.{WriteFault}
 use Rattle.sfc_program.specs.Fronts.{IsFront}
-use Rattle.sfc_program.specs.WalkCommand.{Walk, WalkRuns, IsNoCapture, capture_limit, egress_of}
+use Rattle.sfc_program.specs.WalkCommand.{Walk, IsNoCapture, capture_limit, egress_of}
 use Rattle.sfc_program.specs.Walks.{WalksTo}
 
 -- what the words of `walk` say, as the program keeps it

@@ -19,9 +19,8 @@
 //! - `walk_call` is the command `walk`: with Ok the egress is `egress_of` the frames and the ends of their
 //!   walks (`WalksTo`); after a failed call or want of memory it is a front of that, and after a refused or
 //!   too long capture it is empty.
-//! - `show_nsh_call` is the command `show nsh`: with Ok, Report took exactly the text that shows the header
-//!   at the front of the file, or its refusal (`ShowsNsh`), and after a failed call or want of memory a
-//!   front of that.
+//! - `show_call` is `show nsh` and `show bgp`: with Ok, Report took exactly the text that shows the bytes of the
+//!   file, or their refusal (`Shows`), and after a failed call or want of memory a front of that.
 //! - `walk_frame` gives the end of one frame's walk, on the 8 bytes of a header that is changed in place.
 //! - `status_line` is the line of a status.
 //!
@@ -43,7 +42,7 @@ mod reading;
 mod reading_tests;
 mod reports;
 mod sfc_calls;
-mod show_nsh_command;
+mod show_command;
 mod slow_walks;
 mod statuses;
 mod walk_command;
@@ -58,7 +57,7 @@ pub use gates::{Gate, OpenGate};
 pub use laws::sixty_one_functions_spend_the_ttl;
 pub use paths::{Answer, HopRow, Path};
 pub use sfc_calls::sfc_call;
-pub use show_nsh_command::show_nsh_call;
+pub use show_command::show_call;
 pub use slow_walks::walk_by_stations;
 pub use statuses::{CaptureReason, Status, status_line};
 pub use walk_command::walk_call;

@@ -1,11 +1,11 @@
-ghost use Rattle.std.specs.Prelude.{◌≡◌, ◌≢◌, ◌↔◌, ◌<◌, true, drop, length};
+ghost use Rattle.std.specs.Prelude.{◌≡◌, ◌≢◌, ◌↔◌, true};
 ghost use Rattle.sfc_desk.specs.declared.ports.Port.{Port};
 ghost use Rattle.sfc_program.specs.declared.statuses.Status.{Status as Answered};
 ghost use Rattle.sfc_program.specs.Commands.{NoneRose};
-ghost use Rattle.sfc_program.specs.SfcCalls.{Command, Spells, Runs, Wants, RowCall, row_of as row_of_words, show_row_of as show_row_of_words};
+ghost use Rattle.sfc_program.specs.SfcCalls.{Command, Spells, Runs, Wants, RowCall, row_of as row_of_words};
 
 use crate::gates::Gate;
-use crate::show_nsh_command::show_nsh_call;
+use crate::show_command::show_call;
 use crate::statuses::Status;
 use crate::walk_command::walk_call;
 use crate::words::Words;
@@ -16,26 +16,12 @@ use std::alloc::Global;
 #[derive(Clone, Copy, Debug, PartialEq, Eq)]
 pub(crate) enum Row {
     Walk,
-    ShowNsh,
+    Show,
     /// No command has these words.
     Unknown,
 }
 
-/// The command of `show` that the second word names.
-fn show_row_of(words: &Words) -> Row
-    requires { 0 < length words.now }
-    ensures { result ≡ show_row_of_words (drop 1 words.now) }
-{
-    if words.len() == 1 {
-        return Row::Unknown;
-    }
-    if words.word(1) == "nsh" {
-        return Row::ShowNsh;
-    }
-    Row::Unknown
-}
-
-/// The command that the first words name.
+/// The command that the first word names.
 fn row_of(words: &Words) -> Row
     ensures { result ≡ row_of_words words.now }
 {
@@ -46,7 +32,7 @@ fn row_of(words: &Words) -> Row
         return Row::Walk;
     }
     if words.word(0) == "show" {
-        return show_row_of(words);
+        return Row::Show;
     }
     Row::Unknown
 }
@@ -57,7 +43,7 @@ fn call_row<D: Desk>(alloc: Global, row: Row, words: &Words, desk: &mut D) -> St
 {
     match row {
         Row::Walk => walk_call(alloc, words, desk),
-        Row::ShowNsh => show_nsh_call(alloc, words, desk),
+        Row::Show => show_call(alloc, words, desk),
         Row::Unknown => Status::Words,
     }
 }

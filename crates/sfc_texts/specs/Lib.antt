@@ -1,1 +1,3 @@
 pub mod NshText
+pub mod BgpText
+pub mod BgpSteps

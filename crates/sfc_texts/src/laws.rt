@@ -2,6 +2,7 @@
 
 ghost use Rattle.std.specs.Prelude.{◌≡◌, ℕ, List};
 ghost use Rattle.sfc_texts.specs.NshText.{ShowsNsh};
+ghost use Rattle.sfc_texts.specs.BgpText.{ShowsBgp};
 
 /// Bytes are shown by one text at most.
 pub fn bytes_are_shown_once()
@@ -11,3 +12,8 @@ pub fn bytes_are_shown_once()
     nsh_metadata::one_refusal();
     nsh_metadata::spelled_is_not_refused();
 }
+
+/// A stream is shown by one text at most.
+pub fn a_stream_is_shown_once()
+    ensures { (stream s t : List ℕ) → ShowsBgp stream s → ShowsBgp stream t → s ≡ t }
+{}

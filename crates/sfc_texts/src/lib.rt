@@ -13,6 +13,8 @@
 //!
 //! - `nsh_lines` gives the lines of the header that bytes begin with and of what follows it, or the one line
 //!   of their refusal.
+//! - `bgp_lines` gives the lines of the messages of a BGP stream, and then its rest or where it is refused
+//!   (`ShowsBgp`, of which a stream has one: `a_stream_is_shown_once`).
 //! - `bytes_are_shown_once`: bytes have one such text, so what is shown of a header can be trusted.
 //!
 //! It does no IO, and takes memory only for the text.
@@ -22,10 +24,12 @@
 //! ```
 #![tactic(auto)]
 
+mod bgp_text;
 mod laws;
 mod nsh_text;
 #[cfg(test)]
 mod tests;
 
-pub use laws::bytes_are_shown_once;
+pub use bgp_text::bgp_lines;
+pub use laws::{a_stream_is_shown_once, bytes_are_shown_once};
 pub use nsh_text::nsh_lines;

@@ -14,7 +14,7 @@ use text_words::{print_four_digits, print_number, print_octets, print_octets_or_
 use wire_base::{Bytes, OutOfMemory};
 
 /// Appends a label and a number.
-fn print_field(out: &mut Bytes, label: &[u8], number: u64) -> Result<(), OutOfMemory>
+pub(crate) fn print_field(out: &mut Bytes, label: &[u8], number: u64) -> Result<(), OutOfMemory>
     ensures { OnOk result (out.new ≡ out.old ++ field label.now number) }
 {
     out.push_all(label)?;
@@ -102,7 +102,7 @@ fn print_item(out: &mut Bytes, item: ItemRef<'_>) -> Result<(), OutOfMemory>
     out.push_all(b"\n")
 }
 
-/// Appends the lines of items.
+/// Appends the lines of items. Each is found from the front; a header has at most 61.
 fn print_items(out: &mut Bytes, items: &ItemList) -> Result<(), OutOfMemory>
     ensures { OnOk result (out.new ≡ out.old ++ flat_map item_line items.now) }
 {

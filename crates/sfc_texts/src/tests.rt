@@ -101,3 +101,77 @@ fn a_refusal_is_one_line(rt: HostRuntime) -> Result<(), Fail> {
     }
     Ok(())
 }
+
+const MARKER: [u8; 16] = [0xFF; 16];
+
+// The OPEN of AS 65001 with hold time 90, identifier 0.0.0.1, the service function family and the AS of 4 bytes, and the UPDATE
+// that announces an instance, both by hand after RFC 4271, section 4, and RFC 4760, section 3.
+const OPEN: [u8; 27] = [
+    0, 43, 1, 4, 0xFD, 0xE9, 0, 90, 0, 0, 0, 1, 14, 2, 12, 1, 4, 0, 31, 0, 9, 65, 4, 0, 0, 0xFD,
+    0xE9,
+];
+
+const ANNOUNCED: [u8; 46] = [
+    0, 62, 2, 0, 0, 0, 39, 0x40, 1, 1, 0, 0x40, 2, 6, 2, 1, 0, 0, 0xFD, 0xE9, 0x80, 14, 23, 0, 31,
+    9, 4, 10, 0, 0, 2, 0, 0, 1, 0, 10, 0, 0, 0xFD, 0xE8, 0, 0, 0, 1, 0, 41,
+];
+
+#[test]
+fn an_open_and_an_update_are_shown(rt: HostRuntime) -> Result<(), Fail> {
+    let mut stream = MARKER.to_vec(rt.alloc())?;
+    stream.extend_from_slice(&OPEN)?;
+    stream.extend_from_slice(&MARKER)?;
+    stream.extend_from_slice(&ANNOUNCED)?;
+    let text = bgp_lines(rt.alloc(), &stream)?;
+    let lines =
+        b"open as=65001 hold=90 id=0.0.0.1 capabilities=1:001f0009,65:0000fde9\nupdate\nattribute 40 origin 00\nattribute 40 as-path 02010000fde9\nattribute 80 mp-reach 001f09040a000002000001000a0000fde8000000010029\n";
+    assert!(rt; text.as_slice() == lines.as_slice());
+    Ok(())
+}
+
+/// Streams and what is shown of them, each behind one marker.
+fn streams() -> [(&'static str, &'static [u8], &'static [u8]); 8] {
+    [
+        (
+            "a keepalive and a byte",
+            &[0, 19, 4, 0xFF],
+            b"keepalive\nrest 1\n",
+        ),
+        ("a keepalive alone", &[0, 19, 4], b"keepalive\n"),
+        ("a message that is cut", &[0, 19], b"rest 18\n"),
+        (
+            "a keepalive and a bad marker",
+            &[0, 19, 4, 0xFF, 0],
+            b"keepalive\nrefused 1 1 20\n",
+        ),
+        ("a notification", &[0, 21, 3, 6, 2], b"notification 6 2 -\n"),
+        (
+            "a notification with data",
+            &[0, 23, 3, 2, 1, 0, 4],
+            b"notification 2 1 0004\n",
+        ),
+        (
+            "an open without capabilities",
+            &[0, 29, 1, 4, 0x5B, 0xA0, 0, 0, 192, 0, 2, 1, 0],
+            b"open as=23456 hold=0 id=192.0.2.1 capabilities=-\n",
+        ),
+        (
+            "an update with its attributes past the end",
+            &[0, 23, 2, 0, 0, 0, 1, 0xFF],
+            b"refused 3 1 21\n",
+        ),
+    ]
+}
+
+#[test]
+fn each_message_has_its_line(rt: HostRuntime) -> Result<(), Fail> {
+    for (name, behind, lines) in streams() {
+        let mut stream = MARKER.to_vec(rt.alloc())?;
+        stream.extend_from_slice(behind)?;
+        let text = bgp_lines(rt.alloc(), &stream)?;
+        assert!(rt; text.as_slice() == lines, "{name}");
+    }
+    let text = bgp_lines(rt.alloc(), &[])?;
+    assert!(rt; text.as_slice().is_empty());
+    Ok(())
+}

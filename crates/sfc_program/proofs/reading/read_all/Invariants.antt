@@ -1,5 +1,4 @@
-use Rattle.std.proofs.Common.{◌≡◌, ◌+◌, ◌-◌, ◌≤◌, true, length, vec_len, ◌++◌}
-use Rattle.sfc_desk.specs.Desks.{Elsewhere}
+use Rattle.std.proofs.Common.{◌+◌, ◌-◌, vec_len}
 use Rattle.sfc_program.specs.Pieces.{ReadsOn}
 use Rattle.sfc_program.proofs.reading.read_all.Given as goal
 

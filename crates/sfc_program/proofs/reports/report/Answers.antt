@@ -1,4 +1,3 @@
-use Rattle.std.proofs.Common.{◌≡◌}
 use Rattle.sfc_desk.specs.declared.ports.Port.TheVariants as ports
 use Rattle.sfc_program.proofs.FrontLemmas.{front_behind}
 use Rattle.sfc_program.proofs.reports.report.Goals as goal

@@ -1,8 +1,7 @@
-use Rattle.std.proofs.Common.{◌≡◌, List, ℕ, take, slice_index_or, sym, subst, arith}
+use Rattle.std.proofs.Common.{List, ℕ, take, slice_index_or, subst, arith}
 use Rattle.std.proofs.lemmas.List.{take_more}
 use Rattle.pcap_io.specs.declared.frames.Captured.{Captured}
 use Rattle.sfc_program.specs.Walks.{WalksTo}
-use Rattle.sfc_program.specs.WalkSteps.{EndsOf}
 use Rattle.sfc_program.proofs.PacketLemmas.{zip_and_one}
 use Rattle.sfc_program.proofs.walk_command.ends_of.Goals as goal
 

@@ -1,4 +1,4 @@
-use Rattle.std.proofs.Common.{◌≡◌, List, ℕ, ◌++◌, refl}
+use Rattle.std.proofs.Common.{◌++◌, refl}
 use Rattle.sfc_desk.specs.declared.ports.Port.TheVariants as ports
 use Rattle.pcap_io.specs.Captures.{packet, plain_form}
 use Rattle.sfc_program.proofs.FrontLemmas.{front_before}

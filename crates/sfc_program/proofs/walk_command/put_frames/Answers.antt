@@ -1,4 +1,4 @@
-use Rattle.std.proofs.Common.{◌≡◌, List, ℕ, ◌+◌, ◌++◌, drop, slice_index_or, sym, ap, ◌∙◌, arith}
+use Rattle.std.proofs.Common.{◌+◌, ◌++◌, drop, slice_index_or, sym, ap, ◌∙◌, arith}
 use Rattle.sfc_desk.specs.declared.ports.Port.TheVariants as ports
 use Rattle.pcap_io.specs.Captures.{plain_form}
 use Rattle.sfc_program.specs.declared.walks.End.TheVariants.{Egress}

@@ -1,4 +1,4 @@
-use Rattle.std.proofs.Common.{◌≡◌, List, ℕ, ◌≤◌, length, Err, refl, sym, ap, ◌∙◌, subst}
+use Rattle.std.proofs.Common.{List, ℕ, ◌≤◌, length, Err, refl, sym, ap, ◌∙◌, subst}
 use Rattle.pcap_io.specs.Captures.{IsCapture, plain_form}
 use Rattle.sfc_program.specs.WalkCommand.{capture_limit}
 use Rattle.sfc_program.proofs.walk_command.read_frames.Goals as goal

@@ -1,4 +1,4 @@
-use Rattle.std.proofs.Common.{◌≡◌, ◌≢◌, ◌≤◌, List, ℕ, Some, refl, ap, sym, subst, ◌∙◌}
+use Rattle.std.proofs.Common.{◌≡◌, ◌≢◌, ◌≤◌, Some, refl, sym, subst, ◌∙◌}
 use Rattle.sfc_desk.specs.declared.ports.Port.TheVariants.{Capture, Egress}
 use Rattle.sfc_desk.specs.Desks.{Shown}
 use Rattle.sfc_program.specs.WalkSteps.{walk_of}

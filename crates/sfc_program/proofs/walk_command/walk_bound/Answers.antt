@@ -1,4 +1,4 @@
-use Rattle.std.proofs.Common.{◌≡◌, ◌≢◌, List, inr, refl, Err, ap, sym, subst}
+use Rattle.std.proofs.Common.{◌≢◌, List, inr, refl, Err, ap, sym, subst}
 use Rattle.sfc_desk.specs.declared.ports.Port.TheVariants.{Capture, Egress}
 use Rattle.sfc_desk.specs.Desks.{Shown, Rose}
 use Rattle.pcap_io.specs.declared.frames.Captured.{Captured}

@@ -1,4 +1,3 @@
-use Rattle.std.proofs.Common.{◌≡◌}
 use Rattle.sfc_program.specs.WalkSteps.{walk_of}
 use Rattle.sfc_program.proofs.WalkAnswerLemmas.{served, runs_of_words, asked_is_answered}
 use Rattle.sfc_program.proofs.walk_command.walk_call.Goals as goal

@@ -1,9 +1,8 @@
-use Rattle.std.proofs.Common.{◌≡◌, List, [], ℕ, ◌++◌, refl, sym, ap, ◌∙◌, subst}
+use Rattle.std.proofs.Common.{◌++◌, refl, ap, ◌∙◌}
 use Rattle.sfc_desk.specs.declared.ports.Port.TheVariants as ports
 use Rattle.pcap_io.specs.Captures.{plain_form}
-use Rattle.pcap_io.specs.Heads.{file_head}
 use Rattle.sfc_program.specs.WalkCommand.{egress_packets}
-use Rattle.sfc_program.proofs.FrontLemmas.{front_before, front_of_same, front_of_more, head_and_packets}
+use Rattle.sfc_program.proofs.FrontLemmas.{front_of_same, front_of_more, head_and_packets}
 use Rattle.sfc_program.proofs.WalkRunLemmas.{on_ok_so}
 use Rattle.sfc_program.proofs.walk_command.write_egress.Goals as goal
 

@@ -1,4 +1,4 @@
-use Rattle.std.proofs.Common.{◌≡◌, ◌<◌, ◌≤◌, ◌^◌, Option, List, ℕ, length, slice_index_or, MatchOption, bytes_eq, sym, ap, ◌∙◌, subst, codes, decimal, arith}
+use Rattle.std.proofs.Common.{◌≡◌, ◌<◌, ◌≤◌, ◌^◌, Option, ℕ, MatchOption, sym, ap, ◌∙◌, subst, decimal, arith}
 use Rattle.sfc_program.proofs.WordLemmas.{spelled_so, passed_test, same_word, other_word, some_word}
 use Rattle.sfc_program.proofs.walk_words.walk_words.Goals as goal
 

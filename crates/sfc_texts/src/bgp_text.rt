@@ -1,0 +1,288 @@
+//! The lines that show a stream of BGP messages.
+
+ghost use Rattle.std.specs.Prelude.{◌≡◌, ◌≤◌, ◌<◌, ◌+◌, ◌^◌, ◌++◌, [], length, codes, None, OnOk, IfOk};
+ghost use Rattle.std.specs.List.{flat_map, AllByRecursion};
+ghost use Rattle.bgp_messages.specs.Opens.{capabilities_of};
+ghost use Rattle.bgp_messages.specs.Messages.{content};
+ghost use Rattle.bgp_update.specs.Attributes.{body_bytes, AttributeFits};
+ghost use Rattle.bgp_update.specs.Updates.{UpdateFits};
+ghost use Rattle.text_words.specs.Hexadecimal.{hexadecimal, octets_or_dash};
+ghost use Rattle.sfc_texts.specs.NshText.{field, line_end, octets_field};
+ghost use Rattle.sfc_texts.specs.BgpText.{capability_text, further_capability, capabilities_text, identifier_text, open_line, keep_alive_line, notification_line, attribute_name, attribute_line, update_lines, refused_line, rest_line, ShowsBgp};
+ghost use Rattle.sfc_texts.specs.BgpSteps.{UpdateShown, MessageShown, NextShown};
+
+use crate::nsh_text::print_field;
+use bgp_messages::{BgpFeed, Capability, Message, NextFault, Notice, Open, Param};
+use bgp_update::{Attribute, Update, UpdateFault, decode_update, value_of};
+use std::alloc::Global;
+use text_words::{print_dotted, print_number, print_octets};
+use wire_base::{Bytes, Fixed, OutOfMemory};
+
+/// How many bytes the header of a message has.
+const HEADER: u64 = 19;
+
+/// How many bytes are printed as digits in one go.
+const RUN: usize = 128;
+
+/// Appends the digits of bytes, however many.
+fn print_all_octets(out: &mut Bytes, octets: &[u8]) -> Result<(), OutOfMemory>
+    ensures { OnOk result (out.new ≡ out.old ++ hexadecimal octets.now) }
+{
+    let mut rest = octets;
+    while rest.len() > RUN {
+        let (run, behind) = rest.split_at(RUN);
+        print_octets(out, run)?;
+        rest = behind;
+    }
+    print_octets(out, rest)
+}
+
+/// Appends a label and the digits of bytes, or a dash for none.
+fn print_long_field(out: &mut Bytes, label: &[u8], octets: &[u8]) -> Result<(), OutOfMemory>
+    ensures { OnOk result (out.new ≡ out.old ++ octets_field label.now octets.now) }
+{
+    out.push_all(label)?;
+    if octets.is_empty() {
+        return out.push_all(b"-");
+    }
+    print_all_octets(out, octets)
+}
+
+/// Appends a comma and a capability.
+fn print_further(out: &mut Bytes, capability: &Capability) -> Result<(), OutOfMemory>
+    ensures { OnOk result (out.new ≡ out.old ++ further_capability capability.now) }
+{
+    print_field(out, b",", u64::from(capability.code))?;
+    print_long_field(out, b":", capability.body.as_slice())
+}
+
+/// Appends capabilities, each with a comma before it.
+fn print_all_further(out: &mut Bytes, caps: &[Capability]) -> Result<(), OutOfMemory>
+    ensures { OnOk result (out.new ≡ out.old ++ flat_map further_capability caps.now) }
+{
+    for capability in caps {
+        print_further(out, capability)?;
+    }
+    Ok(())
+}
+
+/// The capabilities of all parameters, each with a comma before it.
+fn further_capabilities(alloc: Global, params: &[Param]) -> Result<Bytes, OutOfMemory>
+    ensures { IfOk result (λ text. text ≡ flat_map further_capability (capabilities_of params.now)) }
+{
+    let mut text = Bytes::new(alloc);
+    for param in params {
+        print_all_further(&mut text, param.caps.as_slice())?;
+    }
+    Ok(text)
+}
+
+/// Appends the capabilities of all parameters, joined by commas.
+fn print_capabilities(alloc: Global, out: &mut Bytes, params: &[Param]) -> Result<(), OutOfMemory>
+    ensures { OnOk result (out.new ≡ out.old ++ capabilities_text (capabilities_of params.now)) }
+{
+    let text = further_capabilities(alloc, params)?;
+    let text = text.as_slice();
+    if text.is_empty() {
+        return out.push_all(b"-");
+    }
+    out.push_all(&text[1..])
+}
+
+/// Appends an identifier as four numbers.
+fn print_identifier(out: &mut Bytes, id: u32) -> Result<(), OutOfMemory>
+    ensures { OnOk result (out.new ≡ out.old ++ identifier_text id) }
+{
+    let (high, low) = (id / 65536, id % 65536);
+    let octets = [
+        (high / 256) as u8,
+        (high % 256) as u8,
+        (low / 256) as u8,
+        (low % 256) as u8,
+    ];
+    out.push_all(b" id=")?;
+    print_dotted(out, &Fixed::of(&octets).unwrap())
+}
+
+/// Appends the line of an OPEN.
+fn print_open(alloc: Global, out: &mut Bytes, opening: &Open) -> Result<(), OutOfMemory>
+    ensures { OnOk result (out.new ≡ out.old ++ open_line opening.now) }
+{
+    print_field(out, b"open as=", u64::from(opening.peer_as()))?;
+    print_field(out, b" hold=", u64::from(opening.hold))?;
+    print_identifier(out, opening.id)?;
+    out.push_all(b" capabilities=")?;
+    print_capabilities(alloc, out, opening.params.as_slice())?;
+    out.push_all(b"\n")
+}
+
+/// Appends the line of a NOTIFICATION.
+fn print_notification(out: &mut Bytes, notice: &Notice) -> Result<(), OutOfMemory>
+    ensures { OnOk result (out.new ≡ out.old ++ notification_line notice.now) }
+{
+    print_field(out, b"notification ", u64::from(notice.code))?;
+    print_field(out, b" ", u64::from(notice.subcode))?;
+    print_long_field(out, b" ", notice.info.as_slice())?;
+    out.push_all(b"\n")
+}
+
+/// Appends the name of a kind of attribute, or its number where it has no name.
+fn print_attribute_name(out: &mut Bytes, kind: u8) -> Result<(), OutOfMemory>
+    ensures { OnOk result (out.new ≡ out.old ++ attribute_name kind) }
+{
+    match kind {
+        1 => out.push_all(b"origin"),
+        2 => out.push_all(b"as-path"),
+        3 => out.push_all(b"next-hop"),
+        4 => out.push_all(b"med"),
+        5 => out.push_all(b"local-pref"),
+        6 => out.push_all(b"atomic-aggregate"),
+        7 => out.push_all(b"aggregator"),
+        8 => out.push_all(b"communities"),
+        14 => out.push_all(b"mp-reach"),
+        15 => out.push_all(b"mp-unreach"),
+        16 => out.push_all(b"ext-communities"),
+        37 => out.push_all(b"sfp"),
+        _ => print_number(out, u64::from(kind)),
+    }
+}
+
+/// Appends the line of an attribute.
+fn print_attribute(alloc: Global, out: &mut Bytes, attribute: &Attribute) -> Result<(), OutOfMemory>
+    requires { AttributeFits attribute.now }
+    ensures { OnOk result (out.new ≡ out.old ++ attribute_line attribute.now) }
+{
+    let value = value_of(alloc, attribute)?;
+    out.push_all(b"attribute ")?;
+    print_octets(out, &[attribute.flags])?;
+    out.push_all(b" ")?;
+    print_attribute_name(out, attribute.kind)?;
+    print_long_field(out, b" ", value.as_slice())?;
+    out.push_all(b"\n")
+}
+
+/// Appends the lines of attributes.
+fn print_attributes(
+    alloc: Global,
+    out: &mut Bytes,
+    attributes: &[Attribute],
+) -> Result<(), OutOfMemory>
+    requires { AllByRecursion AttributeFits attributes.now }
+    ensures { OnOk result (out.new ≡ out.old ++ flat_map attribute_line attributes.now) }
+{
+    for attribute in attributes {
+        print_attribute(alloc, out, attribute)?;
+    }
+    Ok(())
+}
+
+/// Appends the lines of an update.
+fn print_update(alloc: Global, out: &mut Bytes, update: &Update) -> Result<(), OutOfMemory>
+    requires { UpdateFits update.now }
+    ensures { OnOk result (out.new ≡ out.old ++ update_lines update.now) }
+{
+    out.push_all(b"update\n")?;
+    print_attributes(alloc, out, update.attributes.as_slice())
+}
+
+/// Appends the line of a refusal.
+fn print_refused(out: &mut Bytes, code: u8, subcode: u8, place: u64) -> Result<(), OutOfMemory>
+    ensures { OnOk result (out.new ≡ out.old ++ refused_line code subcode place) }
+{
+    print_field(out, b"refused ", u64::from(code))?;
+    print_field(out, b" ", u64::from(subcode))?;
+    print_field(out, b" ", place)?;
+    out.push_all(b"\n")
+}
+
+/// Appends the line of bytes that are no whole message, where there are some.
+fn print_rest(out: &mut Bytes, count: usize) -> Result<(), OutOfMemory>
+    ensures { OnOk result (out.new ≡ out.old ++ rest_line count) }
+{
+    if count == 0 {
+        return Ok(());
+    }
+    print_field(out, b"rest ", count as u64)?;
+    out.push_all(b"\n")
+}
+
+/// Appends the lines of an UPDATE, whose message begins at the place, and answers whether it is one.
+fn show_update(alloc: Global, out: &mut Bytes, place: u64, body: &[u8]) -> Result<bool, OutOfMemory>
+    requires { place + 19 + length body.now < 2 ^ 64 }
+    ensures { UpdateShown place body.now out.old out.new result }
+{
+    match decode_update(alloc, body) {
+        Ok(update) => {
+            print_update(alloc, out, &update)?;
+            Ok(true)
+        }
+        Err(UpdateFault::Session(code, subcode, inside)) => {
+            print_refused(out, code, subcode, place + HEADER + inside)?;
+            Ok(false)
+        }
+        Err(UpdateFault::OutOfMemory) => Err(OutOfMemory),
+    }
+}
+
+/// Appends the lines of a message that begins at the place, and answers whether it is one.
+fn show_message(
+    alloc: Global,
+    out: &mut Bytes,
+    place: u64,
+    message: &Message,
+) -> Result<bool, OutOfMemory>
+    requires { place + 19 + length (content message.now) < 2 ^ 64 }
+    ensures { MessageShown place message.now out.old out.new result }
+{
+    match message {
+        Message::Open(opening) => print_open(alloc, out, opening)?,
+        Message::Update(body) => return show_update(alloc, out, place, body.as_slice()),
+        Message::Notification(notice) => print_notification(out, notice)?,
+        Message::KeepAlive => out.push_all(b"keepalive\n")?,
+    }
+    Ok(true)
+}
+
+/// Appends what the feed's next answer shows, and answers whether it was a message.
+fn show_next(alloc: Global, feed: &mut BgpFeed, out: &mut Bytes) -> Result<bool, OutOfMemory>
+    requires { feed.old.stop ≡ None }
+    ensures { NextShown feed.old feed.new out.old out.new result }
+{
+    let place = feed.place();
+    match feed.next() {
+        Ok(Some(message)) => show_message(alloc, out, place, &message),
+        Ok(None) => {
+            print_rest(out, feed.rest().len())?;
+            Ok(false)
+        }
+        Err(NextFault::Bad(refusal)) => {
+            print_refused(out, refusal.code, refusal.subcode, refusal.place)?;
+            Ok(false)
+        }
+        Err(NextFault::OutOfMemory) => Err(OutOfMemory),
+    }
+}
+
+/// The lines that show a stream of BGP messages (RFC 4271, section 4), and where it is refused.
+///
+/// ```text
+/// open as=A hold=H id=D capabilities=L       L: CODE:HEX, joined by commas, or - for none
+/// keepalive
+/// notification C S HEX
+/// update                                     and for each attribute:
+/// attribute FF NAME HEX                      FF: the flags
+/// rest N                                     N bytes that are no whole message, at the end
+/// refused CODE SUBCODE PLACE                 PLACE: counted from the stream's first byte, at the end
+/// ```
+///
+/// HEX has two digits a byte in lower case, and is `-` for no bytes. An attribute without a name is shown by its number. An
+/// update that is refused has the refused line in place of its own.
+pub fn bgp_lines(alloc: Global, bytes: &[u8]) -> Result<Bytes, OutOfMemory>
+    ensures { IfOk result (ShowsBgp bytes.now) }
+{
+    let mut feed = BgpFeed::new(alloc);
+    feed.push(bytes)?;
+    let mut out = Bytes::new(alloc);
+    'messages: while show_next(alloc, &mut feed, &mut out)? {}
+    Ok(out)
+}
