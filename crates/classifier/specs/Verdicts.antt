@@ -18,7 +18,7 @@ verdict_of Does.Refuse = Refuse
 
 -- the frame bears NSH behind its Ethernet header, whose type is then 894F (RFC 8300)
 abbrev pub BearsNsh : Fields → Type 0
-BearsNsh f = f.ether ≡ Some 35151
+BearsNsh f = f.ether ≡ Some 0x894F
 
 -- a rule of the list matches, and every earlier one does not
 pub record Decides (rules : List Rule) (f : Fields) (rule : Rule) : Type 0 where
