@@ -1,8 +1,7 @@
 -- Pieces of bytes as they are read: each number from its cells.
-use Rattle.std.proofs.Common.{◌≡◌, ℕ, zero, suc, ◌+◌, ◌*◌, ◌/◌, ◌%◌, ◌==◌, ◌<◌, ◌≤◌, ◌^◌, true, false, List, [], ◌∷◌, ◌++◌, length, get_or, take, drop, refl, sym, ap, subst, ◌∙◌, append_assoc, arith}
+use Rattle.std.proofs.Common.{◌≡◌, ℕ, suc, ◌+◌, ◌*◌, ◌/◌, ◌%◌, ◌==◌, ◌<◌, ◌≤◌, true, List, [], ◌∷◌, ◌++◌, length, get_or, take, drop, refl, sym, ap, subst, ◌∙◌, append_assoc, arith}
 use Rattle.wire_base.specs.Numbers.{big_endian}
 use Rattle.bgp_update.specs.Nlris.{two, three}
-use Rattle.bgp_update.specs.Attributes.{size_bytes}
 use Rattle.bgp_update.specs.Refusals.{Splits, Opens}
 use Rattle.bgp_update.specs.Pieces.{SplitsNlri}
 

@@ -1,5 +1,5 @@
 -- What was read is all that the bytes can be read as.
-use Rattle.std.proofs.Common.{◌≡◌, ℕ, List, Ok, Err, sym}
+use Rattle.std.proofs.Common.{ℕ, List, Ok, Err}
 use Rattle.std.specs.Prelude.{Result}
 use Rattle.bgp_update.specs.declared.updates.Update.{Update}
 use Rattle.bgp_update.specs.declared.faults.UpdateFault.{UpdateFault}

@@ -1,11 +1,10 @@
 -- Each refusal is told no later than where the content ends.
-use Rattle.std.proofs.Common.{◌≡◌, ℕ, ◌+◌, ◌/◌, ◌%◌, ◌==◌, ◌<◌, ◌≤◌, Bool, true, false, if◌then◌else◌, List, ◌∷◌, ◌++◌, length, refl, ap, inl, inr, arith}
+use Rattle.std.proofs.Common.{◌≡◌, ℕ, ◌+◌, ◌≤◌, List, ◌∷◌, ◌++◌, length, ap, inl, inr, arith}
 use Rattle.std.proofs.lemmas.List.{length-append}
-use Rattle.wire_base.specs.declared.next_hops.NextHop.{NextHop}
 use Rattle.bgp_update.specs.declared.attributes.Attribute.{Attribute}
 use Rattle.bgp_update.specs.Nlris.{two, list_bytes}
-use Rattle.bgp_update.specs.Attributes.{family, hop_bytes, size_bytes, attributes_bytes}
-use Rattle.bgp_update.specs.Refusals.{header_size, Splits, SplitsReach, RefusedList, RefusedReach, RefusedValue, RefusedAttribute, RefusedAttributes, Opens, Refused}
+use Rattle.bgp_update.specs.Attributes.{hop_bytes, attributes_bytes}
+use Rattle.bgp_update.specs.Refusals.{header_size, RefusedList, RefusedReach, RefusedValue, RefusedAttribute, RefusedAttributes, Opens, Refused}
 use Rattle.bgp_update.proofs.AttributeLemmas.{value_ends}
 
 list_place : (start : ℕ) (bytes : List ℕ) (place : ℕ) → RefusedList start bytes place → place ≤ start + length bytes

@@ -1,6 +1,6 @@
 -- Two readings of one content are one: an update, or one refusal of it.
-use Rattle.std.proofs.Common.{◌≡◌, ℕ, zero, suc, ◌+◌, ◌*◌, ◌/◌, ◌%◌, ◌==◌, ◌<◌, ◌≤◌, ◌^◌, Bool, true, false, cond, if◌then◌else◌, List, [], ◌∷◌, ◌++◌, length, get_or, drop, refl, sym, ap, subst, ◌∙◌, append_assoc, inl, inr, ◌⊎◌, arith}
-use Rattle.std.specs.List.{flat_map, AllByRecursion}
+use Rattle.std.proofs.Common.{◌≡◌, ℕ, ◌+◌, ◌/◌, ◌%◌, ◌==◌, ◌<◌, ◌≤◌, Bool, true, false, cond, if◌then◌else◌, List, [], ◌∷◌, ◌++◌, length, get_or, drop, refl, sym, ap, subst, ◌∙◌, append_assoc, inl, inr, ◌⊎◌, arith}
+use Rattle.std.specs.List.{AllByRecursion}
 use Rattle.std.proofs.lemmas.List.{append-nil, length-append}
 use Rattle.std.proofs.lemmas.Bool.{eq-eqb}
 use Rattle.std.proofs.lemmas.List.Sums.{sum_by-append}
@@ -9,8 +9,8 @@ use Rattle.bgp_update.specs.declared.attributes.Body.{Body}
 use Rattle.bgp_update.specs.declared.updates.Update.{Update}
 use Rattle.bgp_update.specs.Nlris.{two}
 use Rattle.bgp_update.specs.Attributes.{body_bytes, BodyFits, size_bytes, size_limit, attribute_bytes, attributes_bytes, AttributeFits}
-use Rattle.bgp_update.specs.Updates.{count_of, AttributesFit, update_bytes, UpdateFits, IsUpdate}
-use Rattle.bgp_update.specs.Refusals.{number_at, header_size, RunsPast, Splits, Repeats, RefusedValue, RefusedWhole, RefusedAttribute, RefusedAttributes, Opens, OpensNot, RefusedSize, RefusedOne, Refused}
+use Rattle.bgp_update.specs.Updates.{count_of, AttributesFit, IsUpdate}
+use Rattle.bgp_update.specs.Refusals.{number_at, header_size, RunsPast, Splits, Repeats, RefusedValue, RefusedAttribute, RefusedAttributes, Opens, OpensNot, RefusedSize, RefusedOne, Refused}
 use Rattle.bgp_update.proofs.SplitLemmas.{AllBehind, ReadsBehind, same_parts, one_split_behind}
 use Rattle.bgp_update.proofs.BodyReadings.{one_body, good_body, one_value_told}
 

@@ -1,5 +1,5 @@
 -- Path attributes and their one spelling (RFC 4271, section 4.3; RFC 4760, sections 3 and 4; RFC 4360).
-use Rattle.std.specs.Prelude.{◌≡◌, ◌≢◌, ℕ, ◌/◌, ◌%◌, ◌^◌, ◌==◌, ◌<◌, ◌≤◌, ◌⊎◌, if◌then◌else◌, List, [], ◌∷◌, ◌++◌, length}
+use Rattle.std.specs.Prelude.{◌≡◌, ◌≢◌, ℕ, ◌/◌, ◌%◌, ◌==◌, ◌<◌, ◌≤◌, ◌⊎◌, if◌then◌else◌, List, [], ◌∷◌, ◌++◌, length}
 use Rattle.std.specs.List.{flat_map, AllByRecursion}
 use Rattle.wire_base.specs.declared.next_hops.NextHop.{NextHop}
 use Rattle.wire_base.specs.declared.next_hops.NextHop.TheVariants as hops

@@ -1,12 +1,12 @@
 -- The refusals of an update, in their order (RFC 4271, section 6.3; RFC 4760, section 7, in this project's own choice of
 -- faults). The rows on an attribute are tried for one attribute after the other. Places are counted from the first byte
 -- behind the message header.
-use Rattle.std.specs.Prelude.{◌≡◌, ◌≢◌, ℕ, ◌+◌, ◌*◌, ◌/◌, ◌%◌, ◌^◌, ◌==◌, ◌<◌, ◌⊎◌, if◌then◌else◌, List, [], ◌∷◌, ◌++◌, length, slice_index}
+use Rattle.std.specs.Prelude.{◌≡◌, ◌≢◌, ℕ, ◌+◌, ◌*◌, ◌/◌, ◌%◌, ◌^◌, ◌==◌, ◌<◌, ◌⊎◌, if◌then◌else◌, List, ◌∷◌, ◌++◌, length, slice_index}
 use Rattle.bgp_update.specs.declared.attributes.Attribute.{Attribute}
 use Rattle.bgp_update.specs.declared.routes.Nlri.{Nlri}
 use Rattle.wire_base.specs.declared.next_hops.NextHop.{NextHop}
 use Rattle.bgp_update.specs.Nlris.{two, list_bytes, ListFits}
-use Rattle.bgp_update.specs.Attributes.{family, HasFamily, hop_bytes, HopFits, size_bytes, size_limit, attributes_bytes, IsReachability}
+use Rattle.bgp_update.specs.Attributes.{family, hop_bytes, HopFits, size_bytes, size_limit, attributes_bytes, IsReachability}
 use Rattle.bgp_update.specs.Updates.{count_of, AttributesFit}
 
 -- the number of the 2 bytes that begin at the place

@@ -1,5 +1,5 @@
 -- What the readers of a content answer.
-use Rattle.std.specs.Prelude.{◌≡◌, ◌≢◌, ℕ, ◌+◌, ◌%◌, ◌<◌, List, ◌++◌, length, Result, Ok, Err, Option, Some, None}
+use Rattle.std.specs.Prelude.{◌≡◌, ℕ, List, length, Result, Ok, Err}
 use Rattle.std.specs.List.{flat_map, AllByRecursion}
 use Rattle.bgp_update.specs.declared.routes.Nlri.{Nlri}
 use Rattle.bgp_update.specs.declared.attributes.Attribute.{Attribute}

@@ -1,7 +1,6 @@
 -- The lengths are those of the cells before and behind the withdrawn routes.
-use Rattle.std.proofs.Common.{◌≡◌, length, ◌++◌, ◌≤◌, drop, ◌∙◌, sym, ap, subst, arith}
-use Rattle.std.proofs.lemmas.List.{take_rest, get_or-drop, length-append, length-drop}
-use Rattle.bgp_update.specs.Refusals.{Opens}
+use Rattle.std.proofs.Common.{◌≡◌, length, ◌++◌, ◌≤◌, drop, ◌∙◌, ap, arith}
+use Rattle.std.proofs.lemmas.List.{take_rest, length-append, length-drop}
 use Rattle.bgp_update.proofs.CellLemmas.{opening_spelled}
 use Rattle.bgp_update.proofs.decoding.opening_of.Goals as goal
 

@@ -1,5 +1,5 @@
 -- One attribute more fits behind those before, or what it is refused for is told at its place.
-use Rattle.std.proofs.Common.{◌≡◌, ◌<◌, ◌++◌, length, ap, sym, subst, ◌∙◌, List, ◌∷◌, [], arith}
+use Rattle.std.proofs.Common.{◌≡◌, ◌++◌, length, ap, sym, subst, List, ◌∷◌, [], arith}
 use Rattle.std.proofs.lemmas.List.{length-append}
 use Rattle.std.proofs.lemmas.Result.{err_from_is_err_and}
 use Rattle.bgp_update.specs.declared.attributes.Attribute.{Attribute}

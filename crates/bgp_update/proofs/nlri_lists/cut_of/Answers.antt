@@ -1,5 +1,5 @@
 -- The route's type and length are those of the first four cells.
-use Rattle.std.proofs.Common.{◌≡◌, length, ◌++◌, drop, sym, ◌∙◌, arith}
+use Rattle.std.proofs.Common.{◌≡◌, length, ◌++◌, drop, ◌∙◌, arith}
 use Rattle.std.proofs.lemmas.List.{take_rest, get_or-drop}
 use Rattle.bgp_update.proofs.CellLemmas.{cut_spelled}
 use Rattle.bgp_update.proofs.nlri_lists.cut_of.Goals as goal

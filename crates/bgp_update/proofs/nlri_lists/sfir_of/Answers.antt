@@ -1,5 +1,5 @@
 -- The body is the distinguisher and the type that were read.
-use Rattle.std.proofs.Common.{◌≡◌, take, refl, arith}
+use Rattle.std.proofs.Common.{refl, arith}
 use Rattle.std.proofs.lemmas.List.{take_rest, get_or-drop}
 use Rattle.bgp_update.proofs.CellLemmas.{sfir_spelled}
 use Rattle.bgp_update.proofs.nlri_lists.sfir_of.Goals as goal

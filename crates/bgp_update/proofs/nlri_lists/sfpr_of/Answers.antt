@@ -1,6 +1,6 @@
 -- The body is the distinguisher and the path identifier that were read.
-use Rattle.std.proofs.Common.{◌≡◌, ◌∙◌, take, refl, arith}
-use Rattle.std.proofs.lemmas.List.{take_rest, get_or-drop}
+use Rattle.std.proofs.Common.{◌∙◌, refl, arith}
+use Rattle.std.proofs.lemmas.List.{take_rest}
 use Rattle.bgp_update.proofs.CellLemmas.{sfpr_spelled}
 use Rattle.bgp_update.proofs.nlri_lists.sfpr_of.Goals as goal
 
