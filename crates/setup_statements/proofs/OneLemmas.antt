@@ -1,5 +1,5 @@
 -- One value a word: two spellings that are one word are of one value.
-use Rattle.std.proofs.Common.{◌≡◌, ℕ, ◌/◌, ◌%◌, ◌*◌, ◌+◌, ◌<◌, ◌≤◌, ◌^◌, Bool, true, false, List, [], ◌∷◌, ◌++◌, length, refl, sym, ◌∙◌, ap, arith, lit<}
+use Rattle.std.proofs.Common.{◌≡◌, ℕ, ◌/◌, ◌%◌, ◌*◌, ◌+◌, ◌<◌, ◌≤◌, ◌^◌, Bool, false, List, [], ◌∷◌, ◌++◌, length, refl, sym, ◌∙◌, ap, arith, lit<}
 use Rattle.std.specs.Prelude.{◌==◌, slice_index}
 use Rattle.std.specs.List.{All}
 use Rattle.std.specs.Fmt.{decimal}
@@ -8,12 +8,11 @@ use Rattle.std.proofs.lemmas.List.Elements.{All-from_recursion}
 use Rattle.std.proofs.lemmas.Bool.Decides.{nat_tests}
 use Rattle.std.proofs.lemmas.List.Splits.{slice_split_at, slice_split_none}
 use Rattle.hex.specs.Hex.{decode_sized}
-use Rattle.wire_base.specs.Numbers.{AreBytes, big_endian}
+use Rattle.wire_base.specs.Numbers.{big_endian}
 use Rattle.wire_base.specs.declared.next_hops.NextHop.{NextHop}
 use Rattle.wire_base.specs.declared.next_hops.NextHop.TheVariants.{Four, Sixteen}
-use Rattle.wire_base.proofs.BigEndianLemmas.{big_endian_one_to_one}
 use Rattle.text_words.specs.Pieces.{pieces_of}
-use Rattle.text_words.specs.Hexadecimal.{IsOctets, IsUpToOctets, hexadecimal, four_digits, octets_or_dash}
+use Rattle.text_words.specs.Hexadecimal.{IsOctets, hexadecimal}
 use Rattle.text_words.specs.Addresses.{dotted, address_text, IsAddress}
 use Rattle.text_words.proofs.NumberLemmas.{decimal-lacks}
 use Rattle.text_words.proofs.HexLemmas.{sized-hexadecimal}

@@ -1,11 +1,11 @@
 -- The printed line of a statement is text, and is read as that statement.
 use Rattle.std.proofs.Common.{◌≡◌, ◌⊎◌, ℕ, ◌/◌, ◌%◌, ◌<◌, ◌≤◌, ◌^◌, Bool, true, false, List, [], ◌∷◌, ◌++◌, refl, sym, ◌∙◌, ap, subst, arith, inl, inr, Option, Some, None}
 use Rattle.std.specs.Prelude.{◌==◌, ◌&&◌, if◌then◌else◌, nat_le, codes}
-use Rattle.std.specs.List.{All, AllByRecursion, AllPass}
+use Rattle.std.specs.List.{All, AllByRecursion}
 use Rattle.std.specs.Fmt.{decimal}
 use Rattle.std.proofs.lemmas.Bool.{and_parts}
 use Rattle.std.proofs.lemmas.Bool.Decides.{nat_tests}
-use Rattle.std.proofs.lemmas.List.Elements.{All-from_recursion, All-append, All-cons, All-weaker, recursion_from_All}
+use Rattle.std.proofs.lemmas.List.Elements.{All-from_recursion, All-append, All-cons, All-weaker}
 use Rattle.std.proofs.lemmas.List.{append-nil}
 use Rattle.std.proofs.lemmas.List.Splits.{slice_split_at, slice_split_none}
 use Rattle.wire_base.specs.Numbers.{AreBytes}
@@ -13,15 +13,14 @@ use Rattle.net_frames.specs.declared.contents.Side.{Side}
 use Rattle.net_frames.specs.declared.contents.Side.TheVariants.{Source, Destination}
 use Rattle.nsh_metadata.specs.declared.contexts.Context.{Context}
 use Rattle.nsh_metadata.specs.declared.contexts.Context.TheVariants.{Fixed16, Items}
-use Rattle.text_words.specs.Hexadecimal.{IsOctets, hexadecimal, four_digits, octets_or_dash}
+use Rattle.text_words.specs.Hexadecimal.{hexadecimal, four_digits, octets_or_dash}
 use Rattle.text_words.specs.Names.{IsName, is_name_byte}
 use Rattle.text_words.specs.Pieces.{pieces_of, words_of}
 use Rattle.service_functions.specs.Functions.{has_ports, IsFunction}
 use Rattle.service_functions.specs.declared.functions.Function.{Function}
 use Rattle.service_functions.specs.declared.functions.Function.TheVariants.{Pass, Firewall, Remark, Nat, HopLimit, PushVlan, PopVlan, Stamp, RequireMeta, ClearMeta}
-use Rattle.classifier.specs.Rules.{FitsIfAsked, IsPrefix, IsPorts, IsAction, IsRuleContext, IsRule}
+use Rattle.classifier.specs.Rules.{FitsIfAsked, IsPrefix, IsPorts, IsAction, IsRuleContext}
 use Rattle.classifier.specs.declared.rules.Prefix.{Prefix}
-use Rattle.classifier.specs.declared.rules.Rule.{Rule as OneRule}
 use Rattle.classifier.specs.declared.rules.Action.{Action}
 use Rattle.classifier.specs.declared.rules.Action.TheVariants.{Path, Bypass, Refuse}
 use Rattle.setup_statements.specs.declared.keywords.Keyword.{Keyword}
@@ -30,7 +29,7 @@ use Rattle.setup_statements.specs.declared.statements.Statement.{Statement}
 use Rattle.setup_statements.specs.declared.statements.Statement.TheVariants.{Local, Target, Peer, Forwarder, Ingress, Instance, Rule}
 use Rattle.setup_statements.specs.Keywords.{keyword_text}
 use Rattle.setup_statements.specs.FunctionText.{port_protocol, side_text, function_words}
-use Rattle.setup_statements.specs.RuleText.{star_or, prefix_text, ports_text, protocol_text, IsProtocolText, context_text, action_words, rule_words, TellsRule}
+use Rattle.setup_statements.specs.RuleText.{star_or, prefix_text, ports_text, protocol_text, IsProtocolText, context_text, action_words}
 use Rattle.setup_statements.specs.Statements.{mode_text, keyword_of, words_behind, IsStatement, Tells, Spells, said, line_of, octets_of}
 use Rattle.setup_statements.proofs.TextLemmas.{decimal_all, hexadecimal_all, dotted_all, address_all}
 use Rattle.setup_statements.proofs.OneLemmas.{octets_fit}

@@ -1,5 +1,5 @@
 -- What the words behind a first word tell, by that word.
-use Rattle.std.proofs.Common.{◌≡◌, ℕ, ◌+◌, ◌*◌, ◌<◌, ◌≤◌, ◌^◌, List, [], ◌∷◌, length, take, sym, ◌∙◌, ap, subst, refl, arith, Option, Some, None}
+use Rattle.std.proofs.Common.{◌≡◌, ℕ, ◌<◌, ◌^◌, List, [], ◌∷◌, take, sym, ◌∙◌, ap, subst, refl, arith, Option, Some, None}
 use Rattle.std.specs.Prelude.{◌≢◌, MatchOption, codes}
 use Rattle.std.specs.Fmt.{decimal}
 use Rattle.std.proofs.lemmas.Fmt.{decimal_injective}
@@ -13,12 +13,11 @@ use Rattle.text_words.specs.Addresses.{dotted}
 use Rattle.bgp_session.specs.declared.local_sides.Local.{Local as LocalSide}
 use Rattle.bgp_session.specs.LocalSide.{IsLocal, local_side}
 use Rattle.sfc_routes.specs.declared.entries.InstanceEntry.{InstanceEntry}
-use Rattle.service_functions.specs.Functions.{IsFunction}
 use Rattle.service_functions.specs.declared.functions.Function.{Function}
-use Rattle.service_functions.specs.declared.functions.Function.TheVariants.{Pass, Firewall, Remark, Nat, HopLimit, PushVlan, PopVlan, Stamp, RequireMeta, ClearMeta}
+use Rattle.service_functions.specs.declared.functions.Function.TheVariants.{Firewall, Nat, Stamp, RequireMeta}
 use Rattle.classifier.specs.Rules.{IsAction}
 use Rattle.classifier.specs.declared.rules.Action.{Action}
-use Rattle.classifier.specs.declared.rules.Action.TheVariants.{Path, Bypass, Refuse}
+use Rattle.classifier.specs.declared.rules.Action.TheVariants.{Path}
 use Rattle.setup_statements.specs.declared.keywords.Keyword.{Keyword}
 use Rattle.setup_statements.specs.declared.keywords.Keyword.TheVariants as keyword
 use Rattle.setup_statements.specs.declared.keywords.FunctionWord.{FunctionWord}

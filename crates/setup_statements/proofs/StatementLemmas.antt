@@ -1,13 +1,12 @@
 -- One statement a line.
-use Rattle.std.proofs.Common.{◌≡◌, ◌⊎◌, ℕ, ◌/◌, ◌%◌, ◌*◌, ◌+◌, ◌<◌, ◌≤◌, ◌^◌, Bool, true, false, List, [], ◌∷◌, ◌++◌, length, refl, sym, ◌∙◌, ap, subst, arith, lit<, inl, inr, Option, Some, None}
-use Rattle.std.specs.Prelude.{◌==◌, slice_index, codes}
+use Rattle.std.proofs.Common.{◌≡◌, ◌⊎◌, ℕ, ◌/◌, ◌%◌, ◌<◌, ◌≤◌, ◌^◌, Bool, true, false, List, [], ◌∷◌, length, refl, sym, ◌∙◌, ap, subst, arith, lit<, inl, inr, Option, Some, None}
+use Rattle.std.specs.Prelude.{◌==◌, codes}
 use Rattle.std.specs.List.{All}
 use Rattle.std.specs.Fmt.{decimal}
 use Rattle.std.proofs.lemmas.Fmt.{decimal_injective}
 use Rattle.std.proofs.lemmas.List.{append_cancel_left}
 use Rattle.std.proofs.lemmas.List.Elements.{All-from_recursion, All-append, All-cons}
 use Rattle.std.proofs.lemmas.Bool.Decides.{nat_tests}
-use Rattle.arrayvec.specs.ArrayVec.{ArrayVec}
 use Rattle.hex.specs.Hex.{lower_digits}
 use Rattle.hex.proofs.HexLemmas.{length-encode_with}
 use Rattle.wire_base.specs.Numbers.{AreBytes}
@@ -19,7 +18,7 @@ use Rattle.text_words.specs.Hexadecimal.{IsOctets, hexadecimal, four_digits, oct
 use Rattle.text_words.specs.Pieces.{pieces_of}
 use Rattle.text_words.proofs.NumberLemmas.{decimal-lacks}
 use Rattle.bgp_session.specs.declared.local_sides.Local.{Local as LocalSide}
-use Rattle.bgp_session.specs.LocalSide.{IsLocal, local_side}
+use Rattle.bgp_session.specs.LocalSide.{IsLocal}
 use Rattle.sfc_routes.specs.declared.entries.ForwarderEntry.{ForwarderEntry}
 use Rattle.sfc_routes.specs.declared.entries.InstanceEntry.{InstanceEntry}
 use Rattle.wire_base.specs.declared.next_hops.NextHop.{NextHop}
@@ -36,7 +35,7 @@ use Rattle.setup_statements.specs.declared.statements.Statement.{Statement}
 use Rattle.setup_statements.specs.declared.statements.Statement.TheVariants.{Local, Target, Peer, Forwarder, Ingress, Instance, Rule}
 use Rattle.setup_statements.specs.FunctionText.{port_protocol, side_text, word_of, told_words, function_words}
 use Rattle.setup_statements.specs.RuleText.{star_or, prefix_text, ports_text, IsProtocolText, context_text, action_words, TellsRule}
-use Rattle.setup_statements.specs.Statements.{octets_of, local_words, IsPeer, peer_words, mode_text, IsInstance, instance_words, keyword_of, IsStatement, words_behind, Tells, Spells}
+use Rattle.setup_statements.specs.Statements.{local_words, mode_text, IsInstance, instance_words, keyword_of, Tells, Spells}
 use Rattle.setup_statements.proofs.StepLemmas.{head_is, tail_is}
 use Rattle.setup_statements.proofs.TextLemmas.{decimal_all, address_all}
 use Rattle.setup_statements.proofs.PairLemmas.{cut_of_prefix, cut_of_ports}

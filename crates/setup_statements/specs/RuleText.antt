@@ -1,5 +1,5 @@
 -- The words of a rule: a star where a field is not asked for, and what a frame with the fields gets.
-use Rattle.std.specs.Prelude.{◌≡◌, ℕ, ◌≤◌, ◌==◌, ◌⊎◌, true, if◌then◌else◌, List, [], ◌∷◌, ◌++◌, Option, Some, None, codes}
+use Rattle.std.specs.Prelude.{◌≡◌, ℕ, ◌≤◌, ◌⊎◌, true, if◌then◌else◌, List, [], ◌∷◌, ◌++◌, Option, Some, None, codes}
 use Rattle.std.specs.Fmt.{decimal}
 use Rattle.nsh_metadata.specs.declared.contexts.Context.{Context}
 use Rattle.nsh_metadata.specs.declared.contexts.Context.TheVariants.{Fixed16, Items}

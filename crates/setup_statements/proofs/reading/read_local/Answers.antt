@@ -1,5 +1,5 @@
 -- The three words are those of one local side.
-use Rattle.std.proofs.Common.{◌≡◌, ◌<◌, ◌≤◌, ◌^◌, [], ◌∷◌, arith, ap, ◌∙◌}
+use Rattle.std.proofs.Common.{[], ◌∷◌, arith, ap, ◌∙◌}
 use Rattle.std.specs.Fmt.{decimal}
 use Rattle.text_words.specs.Addresses.{dotted}
 use Rattle.setup_statements.specs.Statements.{octets_of}

@@ -1,5 +1,5 @@
 -- A range of ports is cut at its dash.
-use Rattle.std.proofs.Common.{subst, sym, List, ◌≡◌}
+use Rattle.std.proofs.Common.{subst}
 use Rattle.text_words.specs.Reading.{Reads}
 use Rattle.classifier.specs.Rules.{IsPorts}
 use Rattle.setup_statements.specs.RuleText.{ports_parts}

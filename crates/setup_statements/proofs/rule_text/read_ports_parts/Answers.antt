@@ -1,5 +1,5 @@
 -- The lowest port is one number, so the range of the highest is known.
-use Rattle.std.proofs.Common.{◌≡◌, ◌≤◌, ◌<◌, ◌^◌, arith, [], refl}
+use Rattle.std.proofs.Common.{◌≡◌, arith, []}
 use Rattle.std.proofs.lemmas.Fmt.{decimal_injective}
 use Rattle.setup_statements.proofs.StepLemmas.{head_is, tail_is}
 use Rattle.setup_statements.proofs.rule_text.read_ports_parts.Goals as goal

@@ -1,5 +1,5 @@
 -- A network is cut at its slash.
-use Rattle.std.proofs.Common.{subst, sym, List, ◌≡◌}
+use Rattle.std.proofs.Common.{subst}
 use Rattle.text_words.specs.Reading.{Reads}
 use Rattle.classifier.specs.Rules.{IsPrefix}
 use Rattle.setup_statements.specs.RuleText.{prefix_parts}

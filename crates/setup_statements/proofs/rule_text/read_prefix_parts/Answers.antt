@@ -1,5 +1,5 @@
 -- The address is one address, so the number of its bits is known.
-use Rattle.std.proofs.Common.{◌≡◌, ◌≤◌, arith, [], ap, sym, ◌∙◌}
+use Rattle.std.proofs.Common.{◌≡◌, arith, [], ap, ◌∙◌}
 use Rattle.classifier.specs.Rules.{address_bits}
 use Rattle.setup_statements.proofs.StepLemmas.{head_is, tail_is}
 use Rattle.setup_statements.proofs.OneLemmas.{one_address}
