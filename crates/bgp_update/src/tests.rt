@@ -54,6 +54,37 @@ fn expect_reach(rt: &impl Abort, reach: &MpReach) {
     }
 }
 
+/// The content of an UPDATE that withdraws the instance with RD 0000fde800000009 and type 41. By hand after RFC 4760, section 4.
+const ONE_WITHDRAWN: [u8; 24] = [
+    0, 0, 0, 20, // no withdrawn routes of IPv4, 20 bytes of attributes
+    0x80, 15, 17, 0, 31, 9, // MP_UNREACH_NLRI
+    0, 1, 0, 10, 0, 0, 0xFD, 0xE8, 0, 0, 0, 9, 0, 41, // the route
+];
+
+#[test]
+fn a_withdrawn_instance_is_read(rt: HostRuntime) -> Result<(), Fail> {
+    let update = decode_update(rt.alloc(), &ONE_WITHDRAWN)
+        .ok()
+        .ok_or("an update")?;
+    assert!(rt; !update.broken());
+    if let [
+        Attribute {
+            flags: 0x80,
+            kind: 15,
+            body: Body::Unreach(unreach),
+        },
+    ] = update.attributes.as_slice()
+    {
+        if let [Nlri::Sfir { rd, kind: 41 }] = unreach.nlri.as_slice() {
+            assert_eq!(rt; rd.bytes(), [0, 0, 0xFD, 0xE8, 0, 0, 0, 9].as_slice());
+            let bytes = encode_update(rt.alloc(), &update)?;
+            assert_eq!(rt; bytes.as_slice(), ONE_WITHDRAWN.as_slice());
+            return Ok(());
+        }
+    }
+    Err(Fail::from("one instance that is withdrawn"))
+}
+
 /// Contents that are refused, each with the place that is told.
 fn refused() -> [(&'static str, &'static [u8], u64); 24] {
     [

@@ -1,6 +1,6 @@
 use super::*;
 use bgp_messages::{BgpFeed, Message, NextFault, Refusal};
-use bgp_update::{decode_update, encode_update};
+use bgp_update::{UpdateFault, decode_update, encode_update};
 use nsh_headers::NshFault;
 use nsh_metadata::{NshFeed, NshStep, decode_nsh};
 use std::alloc::Global;
@@ -184,4 +184,41 @@ fn what_the_update_table_accepts_is_written_again(rt: HostRuntime) -> Result<(),
         }
     }
     Ok(())
+}
+
+/// The number of the two bytes that begin at the place, or 0 where they are not there.
+fn number_at(content: &[u8], place: usize) -> u16 {
+    match content.get(place..) {
+        Some([high, low, ..]) => u16::from_be_bytes([*high, *low]),
+        _ => 0,
+    }
+}
+
+/// What a content answers that ends after `end` bytes, by its two lengths: the withdrawn routes or the lengths are not all
+/// there, the attributes are not, or both are and the answer is that of the whole.
+fn cut_fault(content: &[u8], end: usize) -> Option<UpdateFault> {
+    let withdrawn = number_at(content, 0);
+    let opening = 4 + usize::from(withdrawn);
+    if end < opening {
+        return Some(UpdateFault::Session(3, 1, 0));
+    }
+    let attributes = number_at(content, opening - 2);
+    if end < opening + usize::from(attributes) {
+        return Some(UpdateFault::Session(3, 1, 2 + u64::from(withdrawn)));
+    }
+    None
+}
+
+#[test]
+fn the_update_table_holds_where_its_contents_are_cut(rt: HostRuntime) {
+    for case in &update_cases().cases {
+        for end in 0..case.input.len() {
+            let answer = content_answer(rt.alloc(), &case.input[..end]);
+            let is_expected = match cut_fault(case.input, end) {
+                Some(fault) => is_same(&answer, &Expected::Update(fault)),
+                None => is_same(&answer, &case.answer),
+            };
+            assert!(rt; is_expected, "{} at {end}", case.name);
+        }
+    }
 }

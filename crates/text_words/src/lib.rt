@@ -14,7 +14,6 @@
 //! - `Name`: 1 to 16 characters that begin with a letter (`IsName`).
 //! - `read_octets`, `read_four_digits`, `read_octets_or_dash`: hexadecimal digits in lower case.
 //! - `read_address`: four numbers joined by points (`dotted`), or 32 digits.
-//! - `a_word_spells_one_number` and its like: one word spells at most one value.
 //!
 //! It does no IO, and only the printers take memory.
 //!
