@@ -67,22 +67,25 @@ fn a_withdrawn_instance_is_read(rt: HostRuntime) -> Result<(), Fail> {
         .ok()
         .ok_or("an update")?;
     assert!(rt; !update.broken());
-    if let [
-        Attribute {
-            flags: 0x80,
-            kind: 15,
-            body: Body::Unreach(unreach),
-        },
-    ] = update.attributes.as_slice()
-    {
-        if let [Nlri::Sfir { rd, kind: 41 }] = unreach.nlri.as_slice() {
-            assert_eq!(rt; rd.bytes(), [0, 0, 0xFD, 0xE8, 0, 0, 0, 9].as_slice());
-            let bytes = encode_update(rt.alloc(), &update)?;
-            assert_eq!(rt; bytes.as_slice(), ONE_WITHDRAWN.as_slice());
-            return Ok(());
-        }
+    let bytes = encode_update(rt.alloc(), &update)?;
+    assert_eq!(rt; bytes.as_slice(), ONE_WITHDRAWN.as_slice());
+    let attributes = update.attributes.as_slice();
+    assert_eq!(rt; attributes.len(), 1);
+    if let Body::Unreach(unreach) = &attributes[0].body {
+        expect_withdrawn(&rt, unreach.nlri.as_slice());
+        return Ok(());
     }
-    Err(Fail::from("one instance that is withdrawn"))
+    Err(Fail::from("routes that are withdrawn"))
+}
+
+fn expect_withdrawn(rt: &impl Abort, routes: &[Nlri]) {
+    match routes {
+        [Nlri::Sfir { rd, kind }] => {
+            assert_eq!(rt; rd.bytes(), [0, 0, 0xFD, 0xE8, 0, 0, 0, 9].as_slice());
+            assert_eq!(rt; *kind, 41);
+        }
+        _ => panic!(rt; "one instance"),
+    }
 }
 
 /// Contents that are refused, each with the place that is told.
