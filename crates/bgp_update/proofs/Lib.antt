@@ -6,3 +6,4 @@ pub mod BodyReadings
 pub mod UpdateReadings
 pub mod ExactLemmas
 pub mod RefusalLemmas
+pub mod TotalReadings

@@ -13,7 +13,7 @@
 //! - `decode_update` answers the value that the bytes spell (`IsUpdate`), or the first fault and its place (`Refused`).
 //! - `encode_update` writes the one spelling of an update, so each undoes the other.
 //! - `Update::broken` is that the first attribute of extended communities is none.
-//! - Two readings of the same bytes are one (`one_reading`).
+//! - Two readings of the same bytes are one (`one_reading`), and there always is one (`every_content_is_read_or_refused`).
 //!
 //! It looks into no attribute of another kind, gives no meaning to a route, and does no IO.
 //!
@@ -42,7 +42,7 @@ pub use attributes::{Attribute, Body, MpReach, MpUnreach};
 pub use decoding::decode_update;
 pub use encoding::{encode_update, value_of};
 pub use faults::UpdateFault;
-pub use laws::one_reading;
+pub use laws::{every_content_is_read_or_refused, one_reading};
 pub use routes::Nlri;
 pub use updates::Update;
 pub use wire_base::NextHop;
