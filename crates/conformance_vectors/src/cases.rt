@@ -1,7 +1,6 @@
 //! What a table is made of.
 
 use bgp_messages::Refusal;
-use bgp_update::UpdateFault;
 use nsh_headers::NshFault;
 
 /// What a decoder answers to an input.
@@ -13,8 +12,8 @@ pub enum Expected {
     Nsh(NshFault),
     /// A stream of BGP messages that is refused so.
     Bgp(Refusal),
-    /// The content of an UPDATE with this fault.
-    Update(UpdateFault),
+    /// The content of an UPDATE that is refused with this code and subcode, at this place from its first byte.
+    Update(u8, u8, u64),
 }
 
 /// An input and the answer to it.

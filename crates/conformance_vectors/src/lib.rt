@@ -11,7 +11,9 @@
 //! - `nsh_cases` has each refusal of a Network Service Header (RFC 8300), at the first byte that shows it and
 //!   with all bytes behind it, at its first and its last possible place, and headers that are accepted.
 //! - `bgp_cases` has the same of BGP messages (RFC 4271, sections 4, 6.1 and 6.2).
-//! - `update_cases` has the same of the contents of UPDATEs (RFC 4271, sections 4.3 and 6.3; RFC 4760).
+//! - `update_cases` has each refusal of the content of an UPDATE (RFC 4271, sections 4.3 and 6.3; RFC 4760), at its first
+//!   possible place and behind what is accepted, and contents that are accepted. A last possible place ends a content of
+//!   4,077 bytes: the crate's tests make those.
 //!
 //! The expected answers are written by hand from the formats, and not taken from a decoder. The crate's own
 //! tests run each table through this project's decoders, whole and in every cutting into two pieces.

@@ -13,7 +13,10 @@ fn is_same(answer: &Expected, expected: &Expected) -> bool {
         (Expected::Accepted, Expected::Accepted) => true,
         (Expected::Nsh(fault), Expected::Nsh(other)) => fault == other,
         (Expected::Bgp(refusal), Expected::Bgp(other)) => is_same_refusal(refusal, other),
-        (Expected::Update(fault), Expected::Update(other)) => fault == other,
+        (
+            Expected::Update(code, subcode, place),
+            Expected::Update(other_code, other_subcode, other_place),
+        ) => code == other_code && subcode == other_subcode && place == other_place,
         _ => false,
     }
 }
@@ -160,19 +163,23 @@ fn a_keepalive_in_single_bytes_and_then_a_length_of_18(rt: HostRuntime) -> Resul
 }
 
 /// What the decoder of contents answers.
-fn content_answer(alloc: Global, content: &[u8]) -> Expected {
+fn content_answer(alloc: Global, content: &[u8]) -> Option<Expected> {
     match decode_update(alloc, content) {
-        Ok(_) => Expected::Accepted,
-        Err(fault) => Expected::Update(fault),
+        Ok(_) => Some(Expected::Accepted),
+        Err(UpdateFault::Session(code, subcode, place)) => {
+            Some(Expected::Update(code, subcode, place))
+        }
+        Err(UpdateFault::OutOfMemory) => None,
     }
 }
 
 #[test]
-fn the_update_table_holds_of_the_decoder(rt: HostRuntime) {
+fn the_update_table_holds_of_the_decoder(rt: HostRuntime) -> Result<(), Fail> {
     for case in &update_cases().cases {
-        let answer = content_answer(rt.alloc(), case.input);
+        let answer = content_answer(rt.alloc(), case.input).ok_or(case.name)?;
         assert!(rt; is_same(&answer, &case.answer), "{}", case.name);
     }
+    Ok(())
 }
 
 #[test]
@@ -196,29 +203,86 @@ fn number_at(content: &[u8], place: usize) -> u16 {
 
 /// What a content answers that ends after `end` bytes, by its two lengths: the withdrawn routes or the lengths are not all
 /// there, the attributes are not, or both are and the answer is that of the whole.
-fn cut_fault(content: &[u8], end: usize) -> Option<UpdateFault> {
+fn cut_answer(content: &[u8], end: usize) -> Option<Expected> {
     let withdrawn = number_at(content, 0);
     let opening = 4 + usize::from(withdrawn);
     if end < opening {
-        return Some(UpdateFault::Session(3, 1, 0));
+        return Some(Expected::Update(3, 1, 0));
     }
     let attributes = number_at(content, opening - 2);
     if end < opening + usize::from(attributes) {
-        return Some(UpdateFault::Session(3, 1, 2 + u64::from(withdrawn)));
+        return Some(Expected::Update(3, 1, 2 + u64::from(withdrawn)));
     }
     None
 }
 
 #[test]
-fn the_update_table_holds_where_its_contents_are_cut(rt: HostRuntime) {
+fn the_update_table_holds_where_its_contents_are_cut(rt: HostRuntime) -> Result<(), Fail> {
     for case in &update_cases().cases {
         for end in 0..case.input.len() {
-            let answer = content_answer(rt.alloc(), &case.input[..end]);
-            let is_expected = match cut_fault(case.input, end) {
-                Some(fault) => is_same(&answer, &Expected::Update(fault)),
+            let answer = content_answer(rt.alloc(), &case.input[..end]).ok_or(case.name)?;
+            let is_expected = match cut_answer(case.input, end) {
+                Some(fault) => is_same(&answer, &fault),
                 None => is_same(&answer, &case.answer),
             };
             assert!(rt; is_expected, "{} at {end}", case.name);
         }
     }
+    Ok(())
+}
+
+/// The most bytes of a content: those of a message less its header (RFC 4271, section 4.1).
+const LONGEST: u16 = 4077;
+
+/// A content of 4,077 bytes that ends in these, of which the first two are the attributes' length. Before them stand
+/// withdrawn routes of zeros.
+fn longest_content(alloc: Global, end: &[u8]) -> Result<Vec<u8>, Fail> {
+    let withdrawn = (LONGEST - 2).saturating_sub(end.len().min(4075) as u16);
+    let mut content = withdrawn.to_be_bytes().to_vec(alloc)?;
+    content.resize(2 + usize::from(withdrawn), 0)?;
+    content.extend_from_slice(end)?;
+    Ok(content)
+}
+
+/// Each refusal but the first, as late as it can stand in a message.
+#[test]
+fn an_update_is_refused_at_each_last_possible_place(rt: HostRuntime) -> Result<(), Fail> {
+    let rows: [(&str, &[u8], u64); 9] = [
+        ("an attribute length", &[0, 1], 4075),
+        ("an attribute", &[0, 1, 0x40], 4076),
+        (
+            "a second of kind 14",
+            &[0, 9, 0x80, 14, 3, 0, 1, 1, 0x80, 14, 0],
+            4074,
+        ),
+        (
+            "a second of kind 15",
+            &[0, 9, 0x80, 15, 3, 0, 31, 9, 0x80, 15, 0],
+            4074,
+        ),
+        ("kind 14 without a value", &[0, 3, 0x80, 14, 0], 4074),
+        ("kind 15 without a value", &[0, 3, 0x80, 15, 0], 4074),
+        (
+            "kind 14 without a next hop",
+            &[0, 6, 0x80, 14, 3, 0, 31, 9],
+            4071,
+        ),
+        (
+            "a route of kind 14",
+            &[0, 13, 0x80, 14, 10, 0, 31, 9, 4, 10, 0, 0, 1, 0, 0],
+            4076,
+        ),
+        (
+            "a route of kind 15",
+            &[0, 7, 0x80, 15, 4, 0, 31, 9, 0],
+            4076,
+        ),
+    ];
+    for (name, end, place) in rows {
+        let content = longest_content(rt.alloc(), end)?;
+        assert_eq!(rt; content.len(), usize::from(LONGEST), "{name}");
+        let answer = content_answer(rt.alloc(), &content).ok_or(name)?;
+        assert!(rt; is_same(&answer, &Expected::Update(3, 1, place)), "{name}");
+    }
+    Ok(())
 }

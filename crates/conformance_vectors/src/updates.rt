@@ -1,14 +1,14 @@
 //! The table for the contents of UPDATEs (RFC 4271, sections 4.3 and 6.3; RFC 4760, sections 3 and 4).
 
 use crate::cases::{Case, Cases, Expected, table};
-use bgp_update::UpdateFault;
 
 /// A fault of code 3, subcode 1 at the place, from the first byte of the content.
 fn at(place: u64) -> Expected {
-    Expected::Update(UpdateFault::Session(3, 1, place))
+    Expected::Update(3, 1, place)
 }
 
-/// Each refusal of the content of an UPDATE, at its first and its last place, and contents that are accepted.
+/// Each refusal of the content of an UPDATE, at its first possible place and behind what is accepted, and contents that
+/// are accepted.
 pub fn update_cases() -> Cases<79> {
     table! {
         "the shortest content": &[0, 0, 0, 0] => Expected::Accepted,
