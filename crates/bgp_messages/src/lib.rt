@@ -13,7 +13,7 @@
 //!   It says "not yet" exactly where the rest is `Held`, and a refusal exactly where it is `Refused`.
 //! - `encode_message` writes the one spelling of a message (`IsMessage`).
 //! - `Open::peer_as` is the peer's AS, of 4 bytes where the peer has them.
-//! - Two readings of the same bytes are one (`one_reading`).
+//! - Two readings of the same bytes are one (`one_reading`), and every stream has one (`every_stream_is_cut`).
 //!
 //! It looks into no UPDATE, keeps no session and no clock, and does no IO.
 //!
@@ -39,7 +39,7 @@ mod refusals;
 
 pub use encoders::encode_message;
 pub use feeds::{BgpFeed, NextFault};
-pub use laws::one_reading;
+pub use laws::{every_stream_is_cut, one_reading};
 pub use messages::Message;
 pub use notices::Notice;
 pub use opens::{Capability, Open, Param};
