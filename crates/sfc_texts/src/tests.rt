@@ -130,7 +130,7 @@ fn an_open_and_an_update_are_shown(rt: HostRuntime) -> Result<(), Fail> {
 }
 
 /// Streams and what is shown of them, each behind one marker.
-fn streams() -> [(&'static str, &'static [u8], &'static [u8]); 8] {
+fn streams() -> [(&'static str, &'static [u8], &'static [u8]); 11] {
     [
         (
             "a keepalive and a byte",
@@ -156,8 +156,29 @@ fn streams() -> [(&'static str, &'static [u8], &'static [u8]); 8] {
             b"open as=23456 hold=0 id=192.0.2.1 capabilities=-\n",
         ),
         (
+            "capabilities in three parameters, the second of which is empty",
+            &[
+                0, 43, 1, 4, 0x5B, 0xA0, 0, 3, 1, 2, 3, 4, 14, 2, 2, 64, 0, 2, 0, 2, 6, 65, 4, 0,
+                1, 0x86, 0xA0,
+            ],
+            b"open as=100000 hold=3 id=1.2.3.4 capabilities=64:-,65:000186a0\n",
+        ),
+        (
+            "an attribute without a value",
+            &[0, 26, 2, 0, 0, 0, 3, 0x40, 6, 0],
+            b"update\nattribute 40 atomic-aggregate -\n",
+        ),
+        (
             "an update with its attributes past the end",
             &[0, 23, 2, 0, 0, 0, 1, 0xFF],
+            b"refused 3 1 21\n",
+        ),
+        (
+            "nothing behind an update that is refused",
+            &[
+                0, 23, 2, 0, 0, 0, 1, 0xFF, 0xFF, 0xFF, 0xFF, 0xFF, 0xFF, 0xFF, 0xFF, 0xFF, 0xFF,
+                0xFF, 0xFF, 0xFF, 0xFF, 0xFF, 0xFF, 0, 19, 4,
+            ],
             b"refused 3 1 21\n",
         ),
     ]
@@ -173,5 +194,38 @@ fn each_message_has_its_line(rt: HostRuntime) -> Result<(), Fail> {
     }
     let text = bgp_lines(rt.alloc(), &[])?;
     assert!(rt; text.as_slice().is_empty());
+    Ok(())
+}
+
+#[test]
+fn each_kind_of_attribute_has_its_name(rt: HostRuntime) -> Result<(), Fail> {
+    // The kinds of RFC 4271, section 4.3, RFC 1997, RFC 4760, RFC 4360 and RFC 9015; 0, 9 and 255 are shown by their numbers.
+    let cases: [(u8, &[u8]); 15] = [
+        (0, b"0"),
+        (1, b"origin"),
+        (2, b"as-path"),
+        (3, b"next-hop"),
+        (4, b"med"),
+        (5, b"local-pref"),
+        (6, b"atomic-aggregate"),
+        (7, b"aggregator"),
+        (8, b"communities"),
+        (9, b"9"),
+        (14, b"mp-reach"),
+        (15, b"mp-unreach"),
+        (16, b"ext-communities"),
+        (37, b"sfp"),
+        (255, b"255"),
+    ];
+    for (kind, name) in cases {
+        let mut stream = MARKER.to_vec(rt.alloc())?;
+        stream.extend_from_slice(&[0, 29, 2, 0, 0, 0, 6, 0xCF, kind, 3, 0, 1, 1])?;
+        let text = bgp_lines(rt.alloc(), &stream)?;
+        let mut lines = Bytes::new(rt.alloc());
+        lines.push_all(b"update\nattribute cf ")?;
+        lines.push_all(name)?;
+        lines.push_all(b" 000101\n")?;
+        assert!(rt; text.as_slice() == lines.as_slice());
+    }
     Ok(())
 }
