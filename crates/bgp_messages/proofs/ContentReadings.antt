@@ -7,7 +7,7 @@ use Rattle.bgp_messages.specs.declared.opens.Param.{Param}
 use Rattle.bgp_messages.specs.declared.opens.Capability.{Capability}
 use Rattle.bgp_messages.specs.Opens.{capability_bytes, value_bytes, parameter_bytes, parameters_bytes, open_bytes, OpenFits}
 use Rattle.bgp_messages.specs.Refusals.{Told, RunsPast, RefusedCapability, RefusedParameter, RefusedParameters, BadHold, NoIdentifier, hold_in, RefusedHold, RefusedIdentifier, RefusedSize, RefusedList, RefusedContent}
-use Rattle.bgp_messages.proofs.SplitLemmas.{Reads, same_parts, one_split}
+use Rattle.wire_base.proofs.SplitLemmas.{Reads, same_parts, one_split}
 
 -- every value fits
 abbrev Any : {X : Type 0} → X → Type 0

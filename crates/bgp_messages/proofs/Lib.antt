@@ -4,7 +4,6 @@ pub mod RefusalLemmas
 pub mod FeedLemmas
 pub mod EncoderLemmas
 pub mod OpenLemmas
-pub mod SplitLemmas
 pub mod ContentReadings
 pub mod MessageReadings
 pub mod StreamLemmas

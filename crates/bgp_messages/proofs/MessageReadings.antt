@@ -13,7 +13,7 @@ use Rattle.bgp_messages.specs.Messages.{type_of, content, spelling, ContentFits,
 use Rattle.bgp_messages.specs.Headers.{Marked, length_of, kind_of, OutOfRange, UnknownType, Unfit, LengthFits}
 use Rattle.bgp_messages.specs.Refusals.{Told, HasLength, RefusedContent, RefusedMarker, RefusedLength, RefusedType, RefusedLeast, RefusedOpen, Refused, content_in}
 use Rattle.bgp_messages.proofs.HeaderLemmas.{Shows, shows, unfit_not}
-use Rattle.bgp_messages.proofs.SplitLemmas.{Reads, same_parts, one_split, front_split}
+use Rattle.wire_base.proofs.SplitLemmas.{Reads, same_parts, one_split, front_split}
 use Rattle.bgp_messages.proofs.ContentReadings.{one_parameters_whole, one_content_told, good_content}
 
 -- ---- a message

@@ -12,7 +12,7 @@ use Rattle.bgp_update.specs.declared.attributes.MpUnreach.{MpUnreach}
 use Rattle.bgp_update.specs.Nlris.{list_bytes}
 use Rattle.bgp_update.specs.Attributes.{family, hop_bytes, HopFits, reach_bytes, body_bytes, IsReachability, HasCommunities, BodyFits}
 use Rattle.bgp_update.specs.Refusals.{BadReach, SplitsReach, RefusedList, RefusedReach, RefusedValue}
-use Rattle.bgp_update.proofs.SplitLemmas.{Reads, same_parts, one_split}
+use Rattle.wire_base.proofs.SplitLemmas.{Reads, same_parts, one_split}
 use Rattle.bgp_update.proofs.NlriReadings.{one_list_whole, good_list, one_list_told}
 
 -- ---- communities

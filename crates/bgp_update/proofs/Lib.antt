@@ -1,6 +1,6 @@
 pub mod CellLemmas
 pub mod AttributeLemmas
-pub mod SplitLemmas
+pub mod BehindLemmas
 pub mod NlriReadings
 pub mod BodyReadings
 pub mod UpdateReadings

@@ -5,7 +5,7 @@ use Rattle.bgp_update.specs.declared.routes.Nlri.{Nlri}
 use Rattle.bgp_update.specs.declared.routes.Nlri.TheVariants as routes
 use Rattle.bgp_update.specs.Nlris.{two, three, kind_of, inside, nlri_bytes, list_bytes, NlriFits, ListFits}
 use Rattle.bgp_update.specs.Refusals.{number_at, WrongSize, BadNlri, RefusedList}
-use Rattle.bgp_update.proofs.SplitLemmas.{Reads, same_parts, one_split}
+use Rattle.wire_base.proofs.SplitLemmas.{Reads, same_parts, one_split}
 
 same_three : (m n : ℕ) → three m ≡ three n → m ≡ n
 same_three m n e =

@@ -11,7 +11,8 @@ use Rattle.bgp_update.specs.Nlris.{two}
 use Rattle.bgp_update.specs.Attributes.{body_bytes, BodyFits, size_bytes, size_limit, attribute_bytes, attributes_bytes, AttributeFits}
 use Rattle.bgp_update.specs.Updates.{count_of, AttributesFit, IsUpdate}
 use Rattle.bgp_update.specs.Refusals.{number_at, header_size, RunsPast, Splits, Repeats, RefusedValue, RefusedAttribute, RefusedAttributes, Opens, OpensNot, RefusedSize, RefusedOne, Refused}
-use Rattle.bgp_update.proofs.SplitLemmas.{AllBehind, ReadsBehind, same_parts, one_split_behind}
+use Rattle.wire_base.proofs.SplitLemmas.{same_parts}
+use Rattle.bgp_update.proofs.BehindLemmas.{AllBehind, ReadsBehind, one_split_behind}
 use Rattle.bgp_update.proofs.BodyReadings.{one_body, good_body, one_value_told}
 
 -- ---- an attribute
