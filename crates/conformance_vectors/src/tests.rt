@@ -2,7 +2,7 @@ use super::*;
 use bgp_messages::{BgpFeed, Message, NextFault, Refusal};
 use bgp_update::{UpdateFault, decode_update, encode_update};
 use nsh_headers::NshFault;
-use nsh_metadata::{NshFeed, NshStep, decode_nsh};
+use nsh_metadata::{NshFeed, NshStep, decode_nsh, encode_nsh};
 use std::alloc::Global;
 use std::process::Abort;
 use std::test::Fail;
@@ -36,21 +36,19 @@ fn whole_answer(input: &[u8]) -> Option<Expected> {
     }
 }
 
-/// What a feed answers that gets the input in two pieces. Where more bytes are awaited at the end, that is
-/// the fault of a whole input that is too short.
+/// What a feed answers that gets the input in two pieces. A header that does not fill the input is none. Where more
+/// bytes are awaited at the end, that is the fault of a whole input that is too short.
 fn fed_answer(first: &[u8], second: &[u8]) -> Option<Expected> {
     let mut feed = NshFeed::new();
-    let answer = match feed.push(first) {
-        NshStep::More => feed.push(second),
-        early => early,
+    let (answer, awaited) = match feed.push(first) {
+        NshStep::More => (feed.push(second), second.len()),
+        early => (early, first.len() + second.len()),
     };
     match answer {
         NshStep::More => Some(Expected::Nsh(NshFault::Short(
             first.len() as u64 + second.len() as u64,
         ))),
-        NshStep::Whole(_, taken) => {
-            (taken == first.len() || taken == second.len()).then_some(Expected::Accepted)
-        }
+        NshStep::Whole(_, taken) => (taken == awaited).then_some(Expected::Accepted),
         NshStep::Fault(fault) => Some(Expected::Nsh(fault)),
     }
 }
@@ -62,6 +60,19 @@ fn the_nsh_table_holds_of_the_decoder(rt: HostRuntime) -> Result<(), Fail> {
         assert!(rt; is_same(&answer, &case.answer), "{}", case.name);
     }
     Ok(())
+}
+
+#[test]
+fn what_the_nsh_table_accepts_is_written_again(rt: HostRuntime) {
+    for case in &nsh_cases().cases {
+        if let Ok((nsh, _)) = decode_nsh(case.input) {
+            let mut out = [0xEE; 252];
+            match encode_nsh(&nsh, &mut out) {
+                Ok(size) => assert!(rt; &out[..size] == case.input, "{}", case.name),
+                Err(_) => assert!(rt; false, "{}", case.name),
+            }
+        }
+    }
 }
 
 #[test]
