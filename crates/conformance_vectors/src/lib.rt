@@ -16,7 +16,8 @@
 //!   4,077 bytes: the crate's tests make those.
 //!
 //! The expected answers are written by hand from the formats, and not taken from a decoder. The crate's own
-//! tests run each table through this project's decoders, whole and in every cutting into two pieces.
+//! tests run each table through this project's decoders: whole, through a feed in every cutting into two pieces, and
+//! the contents of UPDATEs, which no feed reads, with every number of their last bytes missing.
 //!
 //! ```text
 //! for case in &nsh_cases().cases {

@@ -1,4 +1,5 @@
--- Why bytes are no head: the first refusal from the left, as soon as its bytes are there.
+-- Why bytes are no head (RFC 8300, section 2.2): the first refusal from the left, as soon as its bytes are there. The order
+-- is this project's own.
 use Rattle.std.specs.Prelude.{◌≡◌, ◌≢◌, ℕ, ◌/◌, ◌%◌, ◌<◌, ◌⊎◌, List, length, slice_index}
 use Rattle.nsh_headers.specs.declared.faults.NshFault.{NshFault}
 use Rattle.nsh_headers.specs.declared.faults.NshFault.TheVariants.{Short, Version, MdType, Length}

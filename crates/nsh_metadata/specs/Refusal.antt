@@ -1,4 +1,4 @@
--- Why bytes are no header, as soon as they show it.
+-- Why bytes are no header, as soon as they show it (RFC 8300, sections 2.2 and 2.5.1). The order of the refusals is this project's own.
 use Rattle.std.specs.Prelude.{◌≡◌, ℕ, ◌+◌, ◌*◌, ◌<◌, ◌≤◌, ◌⊎◌, List, ◌++◌, length, drop}
 use Rattle.nsh_headers.specs.declared.faults.NshFault.{NshFault}
 use Rattle.nsh_headers.specs.declared.faults.NshFault.TheVariants.{Short, Version, MdType, Length, Context}

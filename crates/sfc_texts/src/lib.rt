@@ -17,7 +17,7 @@
 //!   (`ShowsBgp`, of which a stream has one: `a_stream_is_shown_once`).
 //! - `bytes_are_shown_once`: bytes have one such text, so what is shown of a header can be trusted.
 //!
-//! It does no IO, and takes memory only for the text.
+//! It does no IO, and takes memory for the text and, of a stream, for its messages.
 //!
 //! ```text
 //! let text = nsh_lines(alloc, &bytes)?;   // "refused short 0\n" for no bytes
