@@ -13,7 +13,8 @@ HoldsIfAsked P None field = Unit {0}
 HoldsIfAsked P (Some asked) None = ⊥
 HoldsIfAsked P (Some asked) (Some field) = P asked field
 
--- the number that the first n bits of some bytes spell: that of the bytes, without the bits behind
+-- the number that the first n bits of some bytes spell (RFC 4632, section 3.1; RFC 4291, section 2.3): that of the bytes,
+-- without the bits behind
 unfoldable pub first_bits : ℕ → List ℕ → ℕ
 first_bits n bytes = big_endian bytes / 2 ^ (8 * length bytes - n)
 

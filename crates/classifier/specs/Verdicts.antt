@@ -16,7 +16,7 @@ verdict_of (Does.Path spi si ttl context) = Path spi si ttl context
 verdict_of Does.Bypass = Bypass
 verdict_of Does.Refuse = Refuse
 
--- the frame bears NSH behind its Ethernet header, whose type is then 894F (RFC 8300)
+-- the frame bears NSH behind its Ethernet header, whose type is then 894F (RFC 8300, section 10.1)
 abbrev pub BearsNsh : Fields → Type 0
 BearsNsh f = f.ether ≡ Some 0x894F
 

@@ -13,7 +13,7 @@ use std::alloc::Global;
 use std::marker::Model;
 use wire_base::{List, OutOfMemory};
 
-/// The Ethernet type of NSH (RFC 8300).
+/// The Ethernet type of NSH (RFC 8300, section 10.1).
 const NSH: u16 = 0x894f;
 
 /// At most 256 rules, the first first.

@@ -133,7 +133,7 @@ fn a_vlan_is_that_of_the_first_tag(rt: HostRuntime) -> Result<(), Fail> {
 }
 
 #[test]
-fn a_network_has_its_first_bits_and_its_family(rt: HostRuntime) -> Result<(), Fail> {
+fn an_ipv4_network_has_its_first_bits(rt: HostRuntime) -> Result<(), Fail> {
     let from = |from| Rule { from, ..any() };
     let alloc = rt.alloc();
     assert_eq!(rt;
@@ -160,6 +160,13 @@ fn a_network_has_its_first_bits_and_its_family(rt: HostRuntime) -> Result<(), Fa
         refused(alloc, from(four(&[192, 0, 2, 1], 0)?))?,
         *b"xx.x.x."
     );
+    Ok(())
+}
+
+#[test]
+fn an_ipv6_network_has_its_first_bits(rt: HostRuntime) -> Result<(), Fail> {
+    let from = |from| Rule { from, ..any() };
+    let alloc = rt.alloc();
     assert_eq!(rt;
         refused(alloc, from(sixteen(&SIX_BESIDE, 0)?))?,
         *b"..x...."

@@ -8,3 +8,4 @@ pub mod HeaderLaws
 pub mod SegmentLaws
 pub mod MoveLemmas
 pub mod TagLaws
+pub mod Ipv6Laws

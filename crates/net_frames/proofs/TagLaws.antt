@@ -15,7 +15,7 @@ use Rattle.net_frames.proofs.LayoutLemmas.{found_header, shown_header, not_tag, 
 use Rattle.net_frames.proofs.MoveLemmas.{IsMoved, moved_behind, tag_moved, header_moved, segment_moved}
 
 -- one of two frames, by a test
-either : (test : Bool) (first second : Captured) (P : List ℕ → Type 0) → (test ≡ true → P first.bytes) → (test ≡ false → P second.bytes) →
+pub either : (test : Bool) (first second : Captured) (P : List ℕ → Type 0) → (test ≡ true → P first.bytes) → (test ≡ false → P second.bytes) →
     P (cond test first second).bytes
 either true first second P holds other = holds refl
 either false first second P holds other = other refl
@@ -37,27 +37,28 @@ two_counted true true one two = refl
 two_counted true false one two = absurd (cc)
 two_counted false second one two = absurd (cc)
 
--- where the header stands once the tag is out
-popped_at : (bytes others : List ℕ) (at transport : ℕ) → network_of bytes ≡ Ipv4 at transport → is_tag bytes 12 ≡ true → IsMoved bytes others 16 12 →
-    network_at others + 4 ≡ at
+-- where the header stands once the tag is out; the type before it is no tag's
+pub popped_at : (bytes others : List ℕ) (at : ℕ) → network_at bytes ≡ at → is_tag bytes (at - 2) ≡ false → is_tag bytes 12 ≡ true →
+    IsMoved bytes others 16 12 → network_at others + 4 ≡ at
 unfolding network_at tags
-popped_at bytes others at transport found tag moved =
-    let header = found_header bytes at transport found in
-    let shown = shown_header bytes at header.shown in
+popped_at bytes others at begins type tag moved =
     let last : is_tag bytes 16 ≡ true → is_tag bytes 20 ≡ false = λ second.
-    let there : at - 2 ≡ 20 = omega (arith, header.begins, two_counted (is_tag bytes 12) (is_tag bytes 16) tag second) in
-    not_tag bytes 20 (rw there at shown.kind) in
+    let there : at - 2 ≡ 20 = omega (arith, begins, two_counted (is_tag bytes 12) (is_tag bytes 16) tag second) in
+    rw there at type in
     rw (tag_moved bytes others 16 12 16 12 moved (omega arith) refl, tag_moved bytes others 16 12 20 16 moved (omega arith) refl)
-    (one_fewer (is_tag bytes 12) (is_tag bytes 16) (is_tag bytes 20) tag last ∙ header.begins)
+    (one_fewer (is_tag bytes 12) (is_tag bytes 16) (is_tag bytes 20) tag last ∙ begins)
 
--- an IPv4 header behind a tag
-behind_one : (bytes : List ℕ) (at transport : ℕ) → network_of bytes ≡ Ipv4 at transport → is_tag bytes 12 ≡ true → 18 ≤ at
+-- a header behind a tag
+pub behind_one : (bytes : List ℕ) (at : ℕ) → network_at bytes ≡ at → is_tag bytes 12 ≡ true → 18 ≤ at
 unfolding network_at tags
-behind_one bytes at transport found tag =
-    let header = found_header bytes at transport found in
-    omega (arith, header.begins, behind_a_tag (is_tag bytes 12) (is_tag bytes 16) tag)
+behind_one bytes at begins tag = omega (arith, begins, behind_a_tag (is_tag bytes 12) (is_tag bytes 16) tag)
 
-popped_moved : (bytes : List ℕ) → is_tag bytes 12 ≡ true → IsMoved bytes (take 12 bytes ++ drop 16 bytes) 16 12
+-- the type before an IPv4 header
+ipv4_type : (bytes : List ℕ) (at transport : ℕ) → network_of bytes ≡ Ipv4 at transport → is_tag bytes (at - 2) ≡ false
+ipv4_type bytes at transport found =
+    not_tag bytes (at - 2) (shown_header bytes at (found_header bytes at transport found).shown).kind
+
+pub popped_moved : (bytes : List ℕ) → is_tag bytes 12 ≡ true → IsMoved bytes (take 12 bytes ++ drop 16 bytes) 16 12
 popped_moved bytes tag =
     let room = tag_room bytes tag in
     moved_behind bytes (take 12 bytes) 16 12 (length-take-le 12 bytes (omega arith)) room
@@ -66,18 +67,22 @@ pub popped_header : (frame : Captured) → HasRightHeader frame.bytes → HasRig
 popped_header frame was = either (is_tag frame.bytes 12) _ frame HasRightHeader
     (λ tag.
     let moved = popped_moved frame.bytes tag in
-    let there = popped_at frame.bytes (take 12 frame.bytes ++ drop 16 frame.bytes) was.at was.transport was.found tag moved in
+    let begins = (found_header frame.bytes was.at was.transport was.found).begins in
+    let there = popped_at frame.bytes (take 12 frame.bytes ++ drop 16 frame.bytes) was.at begins
+    (ipv4_type frame.bytes was.at was.transport was.found) tag moved in
     header_moved frame.bytes _ 16 12 (network_at (take 12 frame.bytes ++ drop 16 frame.bytes)) moved was
-    (behind_one frame.bytes was.at was.transport was.found tag) (omega (arith, there)) refl)
+    (behind_one frame.bytes was.at begins tag) (omega (arith, there)) refl)
     (λ none. was)
 
 pub popped_segment : (frame : Captured) → HasRightSegment frame.bytes → HasRightSegment (untagged frame).bytes
 popped_segment frame was = either (is_tag frame.bytes 12) _ frame HasRightSegment
     (λ tag.
     let moved = popped_moved frame.bytes tag in
-    let there = popped_at frame.bytes (take 12 frame.bytes ++ drop 16 frame.bytes) was.at was.transport was.found tag moved in
+    let begins = (found_header frame.bytes was.at was.transport was.found).begins in
+    let there = popped_at frame.bytes (take 12 frame.bytes ++ drop 16 frame.bytes) was.at begins
+    (ipv4_type frame.bytes was.at was.transport was.found) tag moved in
     segment_moved frame.bytes _ 16 12 (network_at (take 12 frame.bytes ++ drop 16 frame.bytes)) moved was
-    (behind_one frame.bytes was.at was.transport was.found tag) (omega (arith, there)) refl)
+    (behind_one frame.bytes was.at begins tag) (omega (arith, there)) refl)
     (λ none. was)
 
 -- one tag more
@@ -94,30 +99,28 @@ unfolding is_tag word
 new_tag (a ∷ b ∷ c ∷ d ∷ e ∷ f ∷ g ∷ h ∷ i ∷ j ∷ k ∷ l ∷ more) rest enough = and-true _
 new_tag bytes rest enough = absurd (omega arith)
 
-pushed_moved : (bytes : List ℕ) (vid : ℕ) → 12 ≤ length bytes → IsMoved bytes (take 12 bytes ++ (tag_of vid ++ drop 12 bytes)) 12 16
+pub pushed_moved : (bytes : List ℕ) (vid : ℕ) → 12 ≤ length bytes → IsMoved bytes (take 12 bytes ++ (tag_of vid ++ drop 12 bytes)) 12 16
 pushed_moved bytes vid enough =
     let long : length (take 12 bytes ++ tag_of vid) ≡ 16 = omega (arith, length-append (take 12 bytes) (tag_of vid), length-take-le 12 bytes enough) in
     subst (λ others. IsMoved bytes others 12 16) (append_assoc (take 12 bytes) (tag_of vid) (drop 12 bytes))
     (moved_behind bytes (take 12 bytes ++ tag_of vid) 12 16 long enough)
 
 -- where the header stands once the tag is in
-pushed_at : (bytes : List ℕ) (vid at transport : ℕ) → network_of bytes ≡ Ipv4 at transport → tags bytes < 2 →
+pub pushed_at : (bytes : List ℕ) (vid at : ℕ) → network_at bytes ≡ at → 12 ≤ length bytes → tags bytes < 2 →
     network_at (take 12 bytes ++ (tag_of vid ++ drop 12 bytes)) ≡ at + 4
 unfolding network_at tags
-pushed_at bytes vid at transport found few =
-    let header = found_header bytes at transport found in
-    let enough : 12 ≤ length bytes = omega (arith, header.low, header.long, header.captured) in
+pushed_at bytes vid at begins enough few =
     let others = take 12 bytes ++ (tag_of vid ++ drop 12 bytes) in
     let moved = pushed_moved bytes vid enough in
     let room : nat_le 16 (length others) ≡ true = le-leb 16 (length others) (omega (arith, moved.count)) in
     one_more (is_tag others 12) (is_tag others 16) (is_tag bytes 12) (is_tag bytes 16) (new_tag bytes _ enough ∙ room)
-    (tag_moved bytes others 12 16 12 16 moved (omega arith) refl) few ∙ ap (λ n. n + 4) header.begins
+    (tag_moved bytes others 12 16 12 16 moved (omega arith) refl) few ∙ ap (λ n. n + 4) begins
 
 pub pushed_header : (frame : Captured) (vid : ℕ) → tags frame.bytes < 2 → HasRightHeader frame.bytes → HasRightHeader (tagged frame vid).bytes
 pushed_header frame vid few was = either (nat_le 12 (length frame.bytes)) _ frame HasRightHeader
     (λ enough.
-    let there = pushed_at frame.bytes vid was.at was.transport was.found few in
     let header = found_header frame.bytes was.at was.transport was.found in
+    let there = pushed_at frame.bytes vid was.at header.begins (leb-true 12 (length frame.bytes) enough) few in
     header_moved frame.bytes _ 12 16 (was.at + 4) (pushed_moved frame.bytes vid (leb-true 12 (length frame.bytes) enough)) was
     header.low (omega arith) there)
     (λ short. was)
@@ -125,8 +128,8 @@ pushed_header frame vid few was = either (nat_le 12 (length frame.bytes)) _ fram
 pub pushed_segment : (frame : Captured) (vid : ℕ) → tags frame.bytes < 2 → HasRightSegment frame.bytes → HasRightSegment (tagged frame vid).bytes
 pushed_segment frame vid few was = either (nat_le 12 (length frame.bytes)) _ frame HasRightSegment
     (λ enough.
-    let there = pushed_at frame.bytes vid was.at was.transport was.found few in
     let header = found_header frame.bytes was.at was.transport was.found in
+    let there = pushed_at frame.bytes vid was.at header.begins (leb-true 12 (length frame.bytes) enough) few in
     segment_moved frame.bytes _ 12 16 (was.at + 4) (pushed_moved frame.bytes vid (leb-true 12 (length frame.bytes) enough)) was
     header.low (omega arith) there)
     (λ short. was)

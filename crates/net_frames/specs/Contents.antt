@@ -1,4 +1,4 @@
--- The fields of a frame, read from its captured bytes.
+-- The fields of a frame, read from its captured bytes (IEEE 802.1Q; RFC 791, section 3.1; RFC 8200, section 3).
 use Rattle.std.specs.Prelude.{ℕ, ◌+◌, ◌-◌, ◌%◌, ◌==◌, ◌||◌, ◌&&◌, Bool, if◌then◌else◌, List, slice_index, slice_range, Option, Some, None}
 use Rattle.wire_base.specs.declared.next_hops.NextHop.{NextHop}
 use Rattle.wire_base.specs.declared.next_hops.NextHop.TheVariants.{Four, Sixteen}
@@ -34,7 +34,7 @@ protocol_of bytes (Ipv4 at _) = Some (slice_index bytes (at + 9))
 protocol_of bytes (Ipv6 at _) = Some (slice_index bytes (at + 6))
 protocol_of bytes Other = None
 
--- TCP and UDP have ports
+-- TCP (RFC 9293, section 3.1) and UDP (RFC 768) have ports
 abbrev pub has_ports : ℕ → Bool
 has_ports protocol = protocol == 6 || protocol == 17
 

@@ -64,7 +64,8 @@ readdressed_in Other bytes side to = bytes
 abbrev pub readdressed : List ℕ → Side → List ℕ → List ℕ
 readdressed bytes side to = readdressed_in (network_of bytes) bytes side to
 
--- the hop limit is 0 or 1: IPv4's TTL, byte 8 of the header, or IPv6's hop limit, byte 7
+-- the hop limit is 0 or 1: IPv4's TTL, byte 8 of the header (RFC 1812, section 5.3.1), or IPv6's hop limit, byte 7
+-- (RFC 8200, section 3)
 abbrev pub expires_in : Network → List ℕ → Bool
 expires_in (Ipv4 at _) bytes = nat_le (slice_index bytes (at + 8)) 1
 expires_in (Ipv6 at _) bytes = nat_le (slice_index bytes (at + 7)) 1
@@ -89,7 +90,7 @@ untagged frame =
     then record { room = frame.room; bytes = take 12 frame.bytes ++ drop 16 frame.bytes; original = frame.original - 4 }
     else frame
 
--- a tag of this VLAN, with priority 0
+-- a tag of this VLAN, with priority 0 (IEEE 802.1Q)
 abbrev pub tag_of : ℕ → List ℕ
 tag_of vid = 129 ∷ 0 ∷ vid / 256 ∷ vid % 256 ∷ []
 

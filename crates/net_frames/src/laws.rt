@@ -8,7 +8,7 @@ ghost use Rattle.net_frames.specs.declared.layouts.Network.TheVariants.{Ipv4};
 ghost use Rattle.net_frames.specs.declared.layouts.Checked.TheVariants.{Udp};
 ghost use Rattle.net_frames.specs.Edits.{marked, readdressed, lowered, expires, untagged, tagged};
 ghost use Rattle.net_frames.specs.declared.contents.Side.{Side};
-ghost use Rattle.net_frames.specs.Right.{HasRightHeader, HasRightSegment};
+ghost use Rattle.net_frames.specs.Right.{HasRightHeader, HasRightSegment, HasRightIpv6Segment};
 
 /// A fold is what is left once the carries are added in: it leaves a sum without carries, and is
 /// the same before and after they are added.
@@ -41,4 +41,15 @@ pub fn a_tag_leaves_checksums_right()
     ensures popped_segment { (frame : Captured) → HasRightSegment frame.bytes → HasRightSegment (untagged frame).bytes }
     ensures pushed_header { (frame : Captured) (vid : ℕ) → tags frame.bytes < 2 → HasRightHeader frame.bytes → HasRightHeader (tagged frame vid).bytes }
     ensures pushed_segment { (frame : Captured) (vid : ℕ) → tags frame.bytes < 2 → HasRightSegment frame.bytes → HasRightSegment (tagged frame vid).bytes }
+{}
+
+/// A TCP or UDP segment of IPv6 whose checksum is right has a right one after each edit, where it is
+/// captured whole and stands right behind the header. IPv6 has no header checksum, and no edit
+/// changes its addresses.
+pub fn ipv6_segment_stays_right()
+    ensures marked { (bytes : List ℕ) (dscp : ℕ) → AreBytes bytes → dscp < 64 → HasRightIpv6Segment bytes → HasRightIpv6Segment (marked bytes dscp) }
+    ensures readdressed { (bytes : List ℕ) (side : Side) (to : List ℕ) → HasRightIpv6Segment bytes → HasRightIpv6Segment (readdressed bytes side to) }
+    ensures lowered { (bytes : List ℕ) → AreBytes bytes → expires bytes ≡ false → HasRightIpv6Segment bytes → HasRightIpv6Segment (lowered bytes) }
+    ensures popped { (frame : Captured) → HasRightIpv6Segment frame.bytes → HasRightIpv6Segment (untagged frame).bytes }
+    ensures pushed { (frame : Captured) (vid : ℕ) → tags frame.bytes < 2 → HasRightIpv6Segment frame.bytes → HasRightIpv6Segment (tagged frame vid).bytes }
 {}

@@ -16,7 +16,7 @@
 //! - `set_dscp`, `set_ipv4_address`, `lower_hop_limit`, `pop_vlan` and `push_vlan` leave exactly
 //!   `marked`, `readdressed`, `lowered`, `untagged` and `tagged` of what was there.
 //! - A checksum that was right before an edit is right after it (`header_stays_right`,
-//!   `segment_stays_right`, `a_tag_leaves_checksums_right`).
+//!   `segment_stays_right`, `ipv6_segment_stays_right`, `a_tag_leaves_checksums_right`).
 //!
 //! It does no IO, puts no fragments together, and reads no IPv6 extension headers.
 //!
@@ -41,5 +41,6 @@ mod words;
 pub use contents::{Fields, Side};
 pub use frames::{Frame, lower_hop_limit, pop_vlan, push_vlan, set_dscp, set_ipv4_address};
 pub use laws::{
-    a_fold_adds_the_carries, a_tag_leaves_checksums_right, header_stays_right, segment_stays_right,
+    a_fold_adds_the_carries, a_tag_leaves_checksums_right, header_stays_right,
+    ipv6_segment_stays_right, segment_stays_right,
 };

@@ -1,6 +1,8 @@
 ghost use Rattle.std.specs.Prelude.{◌≤◌, length};
 
-use crate::{Frame, Side, lower_hop_limit, pop_vlan, push_vlan, set_dscp, set_ipv4_address};
+use crate::{
+    Fields, Frame, Side, lower_hop_limit, pop_vlan, push_vlan, set_dscp, set_ipv4_address,
+};
 use std::alloc::Global;
 use std::process::Abort;
 use std::test::Fail;
@@ -21,12 +23,33 @@ const TAGGED: [u8; 57] = [
     0x03, 0xe8, 0, 53, 0, 11, 0x23, 0x56, 0x61, 0x62, 0x63,
 ];
 
-/// IPv6 from 2001:db8::1 to 2001:db8::2, TCP to port 443.
+/// The worked frame's addresses and ports over a segment of 21 bytes, all captured. Both checksums were
+/// summed apart from this code.
+const WHOLE: [u8; 55] = [
+    0x02, 0, 0, 0, 0, 2, 0x02, 0, 0, 0, 0, 1, 0x08, 0x00, 0x45, 0, 0, 41, 0x12, 0x34, 0x40, 0,
+    0x40, 6, 0xf4, 0x5a, 10, 1, 0, 5, 198, 51, 100, 7, 0xc0, 0, 0x01, 0xbb, 0, 0, 0, 1, 0, 0, 0, 0,
+    0x50, 0x18, 0xff, 0xff, 0x58, 0xce, 0, 0, 0x61,
+];
+
+/// IPv6 from 2001:db8::1 to 2001:db8::2, TCP to port 443. The checksum was summed apart from this code.
 const SIX: [u8; 74] = [
     0x02, 0, 0, 0, 0, 2, 0x02, 0, 0, 0, 0, 1, 0x86, 0xdd, 0x6a, 0xb5, 0x12, 0x34, 0, 20, 6, 64,
     0x20, 0x01, 0x0d, 0xb8, 0, 0, 0, 0, 0, 0, 0, 0, 0, 0, 0, 1, 0x20, 0x01, 0x0d, 0xb8, 0, 0, 0, 0,
-    0, 0, 0, 0, 0, 0, 0, 2, 0xc0, 0, 0x01, 0xbb, 0, 0, 0, 1, 0, 0, 0, 0, 0x50, 0x10, 0xff, 0xff, 0,
-    0, 0, 0,
+    0, 0, 0, 0, 0, 0, 0, 2, 0xc0, 0, 0x01, 0xbb, 0, 0, 0, 1, 0, 0, 0, 0, 0x50, 0x10, 0xff, 0xff,
+    0x92, 0xa3, 0, 0,
+];
+
+/// The same addresses, UDP from 1000 to 53 with 3 bytes, and a checksum that was summed likewise.
+const SIX_UDP: [u8; 65] = [
+    0x02, 0, 0, 0, 0, 2, 0x02, 0, 0, 0, 0, 1, 0x86, 0xdd, 0x6a, 0xb5, 0x12, 0x34, 0, 11, 17, 64,
+    0x20, 0x01, 0x0d, 0xb8, 0, 0, 0, 0, 0, 0, 0, 0, 0, 0, 0, 1, 0x20, 0x01, 0x0d, 0xb8, 0, 0, 0, 0,
+    0, 0, 0, 0, 0, 0, 0, 2, 0x03, 0xe8, 0, 53, 0, 11, 0xdb, 0xe3, 0x61, 0x62, 0x63,
+];
+
+/// An ARP request.
+const ARP: [u8; 42] = [
+    0xff, 0xff, 0xff, 0xff, 0xff, 0xff, 0x02, 0, 0, 0, 0, 1, 0x08, 0x06, 0, 1, 0x08, 0, 6, 4, 0, 1,
+    0x02, 0, 0, 0, 0, 1, 10, 1, 0, 5, 0, 0, 0, 0, 0, 0, 10, 1, 0, 1,
 ];
 
 /// 192.0.2.9
@@ -71,18 +94,30 @@ fn carried(sum: u16, word: u16) -> u16 {
     (next % 65536 + next / 65536) as u16
 }
 
-/// Whether the IPv4 header at `at` and the segment from `transport` to the end have right checksums,
-/// by summing all their words afresh.
-fn are_right(bytes: &[u8], at: usize, transport: usize) -> bool {
-    if at > 100 || at + 20 > transport || transport > bytes.len() || bytes.len() > 255 {
+/// Whether a segment between these addresses has a right checksum, by summing all words afresh.
+fn is_segment_right(addresses: &[u8], protocol: u8, segment: &[u8]) -> bool {
+    if segment.len() > 255 {
         return false;
     }
-    let count = (bytes.len() - transport) as u8;
-    let pseudo = summed(
-        &[0, bytes[at + 9], 0, count],
-        summed(&bytes[at + 12..at + 20], 0),
-    );
-    summed(&bytes[at..transport], 0) == 0xffff && summed(&bytes[transport..], pseudo) == 0xffff
+    let pseudo = summed(&[0, protocol, 0, segment.len() as u8], summed(addresses, 0));
+    summed(segment, pseudo) == 0xffff
+}
+
+/// Whether the IPv4 header at `at` and the segment from `transport` to the end have right checksums.
+fn are_right(bytes: &[u8], at: usize, transport: usize) -> bool {
+    if at > 100 || at + 20 > transport || transport > bytes.len() {
+        return false;
+    }
+    summed(&bytes[at..transport], 0) == 0xffff
+        && is_segment_right(&bytes[at + 12..at + 20], bytes[at + 9], &bytes[transport..])
+}
+
+/// Whether the segment behind the IPv6 header at `at` has a right checksum.
+fn is_six_right(bytes: &[u8], at: usize) -> bool {
+    if at > 100 || at + 40 > bytes.len() {
+        return false;
+    }
+    is_segment_right(&bytes[at + 8..at + 40], bytes[at + 6], &bytes[at + 40..])
 }
 
 #[test]
@@ -165,6 +200,63 @@ fn right_checksums_stay_right(rt: HostRuntime) -> Result<(), Fail> {
 }
 
 #[test]
+fn a_right_tcp_checksum_stays_right(rt: HostRuntime) -> Result<(), Fail> {
+    let mut frame = holding(rt.alloc(), &WHOLE)?;
+    assert!(rt; are_right(frame.bytes(), 14, 34));
+    set_ipv4_address(&mut frame, Side::Source, address(&OUTSIDE)?);
+    assert!(rt; are_right(frame.bytes(), 14, 34), "after the source");
+    set_ipv4_address(
+        &mut frame,
+        Side::Destination,
+        address(&[0xff, 0xff, 0xff, 0xff])?,
+    );
+    assert!(rt; are_right(frame.bytes(), 14, 34), "after the destination");
+    assert_eq!(rt; push_vlan(&mut frame, 7), Ok(()));
+    assert!(rt; are_right(frame.bytes(), 18, 38), "behind a tag");
+    pop_vlan(&mut frame);
+    assert!(rt; are_right(frame.bytes(), 14, 34), "without the tag");
+    Ok(())
+}
+
+/// A segment of IPv6 is right after each edit.
+fn is_right_over_six<R: Abort>(rt: &R, alloc: Global, bytes: &[u8]) -> Result<(), Fail>
+    requires { length bytes.now ≤ 2000 }
+{
+    let mut frame = holding(alloc, bytes)?;
+    assert!(rt; is_six_right(frame.bytes(), 14));
+    set_dscp(&mut frame, 46);
+    assert!(rt; lower_hop_limit(&mut frame));
+    assert!(rt;
+        is_six_right(frame.bytes(), 14),
+        "after the dscp and the hop limit"
+    );
+    assert_eq!(rt; push_vlan(&mut frame, 7), Ok(()));
+    assert!(rt; is_six_right(frame.bytes(), 18), "behind a tag");
+    pop_vlan(&mut frame);
+    assert!(rt; is_six_right(frame.bytes(), 14), "without the tag");
+    Ok(())
+}
+
+#[test]
+fn segments_of_ipv6_stay_right(rt: HostRuntime) -> Result<(), Fail> {
+    is_right_over_six(&rt, rt.alloc(), &SIX)?;
+    is_right_over_six(&rt, rt.alloc(), &SIX_UDP)
+}
+
+#[test]
+fn a_checksum_of_ffff_is_0_once_its_word_is_set_to_itself(rt: HostRuntime) -> Result<(), Fail> {
+    let mut bytes = WORKED;
+    bytes[24] = 0xff;
+    bytes[25] = 0xff;
+    let mut frame = holding(rt.alloc(), &bytes)?;
+    set_dscp(&mut frame, 0);
+    bytes[24] = 0;
+    bytes[25] = 0;
+    assert_eq!(rt; frame.bytes(), bytes.as_slice());
+    Ok(())
+}
+
+#[test]
 fn a_udp_checksum_of_zero_stays_and_one_that_falls_to_zero_is_ffff(
     rt: HostRuntime,
 ) -> Result<(), Fail> {
@@ -198,7 +290,31 @@ fn a_later_fragment_has_no_ports_and_keeps_its_payload(rt: HostRuntime) -> Resul
     Ok(())
 }
 
-/// Each field but the Ethernet type is there from some number of captured bytes on.
+/// The fields of a whole frame that are captured with `n` bytes, beside this Ethernet type.
+fn captured(
+    whole: &Fields,
+    ether: Option<u16>,
+    n: usize,
+    vlan: usize,
+    network: usize,
+    port: usize,
+) -> Fields {
+    Fields {
+        vlan: if n >= vlan { whole.vlan } else { None },
+        ether,
+        source: if n >= network { whole.source } else { None },
+        destination: if n >= network {
+            whole.destination
+        } else {
+            None
+        },
+        protocol: if n >= network { whole.protocol } else { None },
+        to_port: if n >= port { whole.to_port } else { None },
+    }
+}
+
+/// Each field but the Ethernet type is there from some number of captured bytes on, and is then the
+/// whole frame's.
 fn is_read_at_every_cut<R: Abort>(
     rt: &R,
     alloc: Global,
@@ -209,17 +325,11 @@ fn is_read_at_every_cut<R: Abort>(
 ) -> Result<(), Fail>
     requires { length bytes.now ≤ 2000 }
 {
+    let whole = holding(alloc, bytes)?.fields();
     for n in 0..=bytes.len() {
         let fields = holding(alloc, &bytes[..n])?.fields();
-        assert_eq!(rt; fields.vlan.is_some(), n >= vlan, "vlan at {n}");
-        assert_eq!(rt; fields.source.is_some(), n >= network, "source at {n}");
-        assert_eq!(rt;
-            fields.destination.is_some(),
-            n >= network,
-            "destination at {n}"
-        );
-        assert_eq!(rt; fields.protocol.is_some(), n >= network, "protocol at {n}");
-        assert_eq!(rt; fields.to_port.is_some(), n >= port, "port at {n}");
+        let want = captured(&whole, fields.ether, n, vlan, network, port);
+        assert_eq!(rt; fields, want, "at {n}");
     }
     Ok(())
 }
@@ -228,7 +338,69 @@ fn is_read_at_every_cut<R: Abort>(
 fn a_field_is_there_once_it_is_captured(rt: HostRuntime) -> Result<(), Fail> {
     is_read_at_every_cut(&rt, rt.alloc(), &WORKED, 99, 34, 38)?;
     is_read_at_every_cut(&rt, rt.alloc(), &TAGGED, 16, 46, 50)?;
-    is_read_at_every_cut(&rt, rt.alloc(), &SIX, 99, 54, 58)
+    is_read_at_every_cut(&rt, rt.alloc(), &SIX, 99, 54, 58)?;
+    is_read_at_every_cut(&rt, rt.alloc(), &SIX_UDP, 99, 54, 58)?;
+    is_read_at_every_cut(&rt, rt.alloc(), &ARP, 99, 99, 99)
+}
+
+fn edit(frame: &mut Frame) -> Result<(), Fail> {
+    set_dscp(frame, 46);
+    set_ipv4_address(frame, Side::Destination, address(&OUTSIDE)?);
+    let _ = lower_hop_limit(frame);
+    Ok(())
+}
+
+/// Whether a cut frame is the front of the edited one; of the one before, while the network header is not
+/// captured, and there also in the transport checksum, while that is not.
+fn is_front(cut: &[u8], edited: &[u8], before: &[u8], network: usize, checksum: usize) -> bool
+    requires { checksum ≤ 2000 }
+{
+    let n = cut.len();
+    for (i, byte) in cut.iter().enumerate() {
+        let want = if n >= network && (i < checksum || n >= checksum + 2) {
+            edited.get(i)
+        } else {
+            before.get(i)
+        };
+        if want != Some(byte) {
+            return false;
+        }
+    }
+    true
+}
+
+/// What the edits write into the whole frame they write into each of its fronts.
+fn is_edited_at_every_cut<R: Abort>(
+    rt: &R,
+    alloc: Global,
+    bytes: &[u8],
+    network: usize,
+    checksum: usize,
+) -> Result<(), Fail>
+    requires captured { length bytes.now ≤ 2000 }
+    requires place { checksum ≤ 2000 }
+{
+    let mut whole = holding(alloc, bytes)?;
+    edit(&mut whole)?;
+    for n in 0..=bytes.len() {
+        let mut frame = holding(alloc, &bytes[..n])?;
+        edit(&mut frame)?;
+        assert_eq!(rt; frame.bytes().len(), n);
+        assert!(rt;
+            is_front(frame.bytes(), whole.bytes(), bytes, network, checksum),
+            "at {n}"
+        );
+    }
+    Ok(())
+}
+
+#[test]
+fn a_header_is_edited_once_it_is_captured(rt: HostRuntime) -> Result<(), Fail> {
+    is_edited_at_every_cut(&rt, rt.alloc(), &WORKED, 34, 50)?;
+    is_edited_at_every_cut(&rt, rt.alloc(), &TAGGED, 46, 52)?;
+    is_edited_at_every_cut(&rt, rt.alloc(), &SIX, 54, 99)?;
+    is_edited_at_every_cut(&rt, rt.alloc(), &SIX_UDP, 54, 99)?;
+    is_edited_at_every_cut(&rt, rt.alloc(), &ARP, 99, 99)
 }
 
 #[test]
@@ -282,6 +454,9 @@ fn ipv6_is_read_and_edited_without_a_checksum(rt: HostRuntime) -> Result<(), Fai
     );
     assert_eq!(rt; fields.protocol, Some(6));
     assert_eq!(rt; fields.to_port, Some(443));
+    let fields = holding(rt.alloc(), &SIX_UDP)?.fields();
+    assert_eq!(rt; fields.protocol, Some(17));
+    assert_eq!(rt; fields.to_port, Some(53));
 
     // DSCP 42 gives place to 46 over the word 6A B5: its lowest six bits and the version stay.
     set_dscp(&mut frame, 46);
@@ -339,5 +514,27 @@ fn a_tag_goes_on_and_comes_off(rt: HostRuntime) -> Result<(), Fail> {
     assert_eq!(rt; frame.original(), 64);
     pop_vlan(&mut frame);
     assert_eq!(rt; frame.original(), 64);
+    Ok(())
+}
+
+/// A frame of so many captured bytes, with room for more than any frame has.
+fn wide(alloc: Global, count: u32) -> Result<Frame, Fail>
+    requires { count ≤ 262144 }
+{
+    let bytes = vec![in alloc; 0u8; count as usize]?;
+    let mut frame = Frame::with_room(alloc, 300_000)?;
+    frame.fill(&bytes, count)?;
+    Ok(frame)
+}
+
+#[test]
+fn no_tag_passes_262144_captured_bytes(rt: HostRuntime) -> Result<(), Fail> {
+    let mut frame = wide(rt.alloc(), 262_141)?;
+    assert_eq!(rt; push_vlan(&mut frame, 7), Err(Full));
+    assert_eq!(rt; frame.bytes().len(), 262_141);
+    let mut frame = wide(rt.alloc(), 262_140)?;
+    assert_eq!(rt; push_vlan(&mut frame, 7), Ok(()));
+    assert_eq!(rt; frame.bytes().len(), 262_144);
+    assert_eq!(rt; frame.original(), 262_144);
     Ok(())
 }
