@@ -26,7 +26,7 @@ fn desk_of(alloc: Global, capture: &[u8], fail: &[u64]) -> Result<MemoryDesk, Ou
         listed.push(*number)?;
     }
     let mut desk = MemoryDesk::new(alloc, 7, listed, 1000)?;
-    desk.add_file(alloc, "K", capture)?;
+    desk.add_file("K", capture)?;
     Ok(desk)
 }
 
@@ -34,7 +34,7 @@ fn desk_of(alloc: Global, capture: &[u8], fail: &[u64]) -> Result<MemoryDesk, Ou
 fn words_of(alloc: Global, line: &str) -> Result<Words, OutOfMemory> {
     let mut words = Words::new(alloc);
     for word in line.split_whitespace() {
-        words.push(alloc, word)?;
+        words.push(word)?;
     }
     Ok(words)
 }
@@ -239,7 +239,7 @@ fn refuses_words_that_show_nothing(rt: HostRuntime) -> Result<(), Fail> {
         assert_eq!(rt; desk.output(Port::Report).len(), 0);
     }
     let mut words = words_of(rt.alloc(), "show nsh")?;
-    words.push(rt.alloc(), "")?;
+    words.push("")?;
     let mut desk = desk_of(rt.alloc(), &ONE_ITEM, &[])?;
     let status = sfc_call(rt.alloc(), &words, &mut desk, &OpenGate);
     assert_eq!(rt; status, Status::Words);
@@ -268,7 +268,7 @@ fn a_failing_call_of_show_nsh_is_told(rt: HostRuntime) -> Result<(), Fail> {
 #[test]
 fn a_report_without_room_is_a_file_fault(rt: HostRuntime) -> Result<(), Fail> {
     let mut desk = MemoryDesk::new(rt.alloc(), 7, List::new(rt.alloc()), 14)?;
-    desk.add_file(rt.alloc(), "K", &ONE_ITEM)?;
+    desk.add_file("K", &ONE_ITEM)?;
     let words = words_of(rt.alloc(), "show nsh K")?;
     let status = sfc_call(rt.alloc(), &words, &mut desk, &OpenGate);
     assert_eq!(rt; status, Status::File(Port::Report));
@@ -281,7 +281,7 @@ fn a_report_without_room_is_a_file_fault(rt: HostRuntime) -> Result<(), Fail> {
 fn a_header_is_shown_in_pieces_of_any_size(rt: HostRuntime) -> Result<(), Fail> {
     for piece in 1..24 {
         let mut desk = MemoryDesk::new(rt.alloc(), piece, List::new(rt.alloc()), 1000)?;
-        desk.add_file(rt.alloc(), "K", &ONE_ITEM)?;
+        desk.add_file("K", &ONE_ITEM)?;
         let words = words_of(rt.alloc(), "show nsh K")?;
         let status = sfc_call(rt.alloc(), &words, &mut desk, &OpenGate);
         assert_eq!(rt; status, Status::Ok, "in pieces of {piece}");

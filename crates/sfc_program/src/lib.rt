@@ -28,7 +28,7 @@
 //!
 //! ```text
 //! let mut words = Words::new(alloc);
-//! words.push(alloc, "walk")?;                       // and so on, to "out"
+//! words.push("walk")?;                              // and so on, to "out"
 //! let status = sfc_call(alloc, &words, &mut desk, &OpenGate);
 //! let line = status_line(&status);                  // ok
 //! ```
