@@ -54,7 +54,7 @@ mod words;
 mod writing;
 
 pub use gates::{Gate, OpenGate};
-pub use laws::sixty_one_functions_spend_the_ttl;
+pub use laws::{every_frame_comes_out_or_none, sixty_one_functions_spend_the_ttl};
 pub use paths::{Answer, HopRow, Path};
 pub use sfc_calls::sfc_call;
 pub use show_command::show_call;
