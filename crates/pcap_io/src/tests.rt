@@ -2,7 +2,7 @@ use super::*;
 use std::alloc::{AllocError, Global};
 use std::test::Fail;
 
-/// The file header of row K: microseconds, lowest byte first, snapshot length 262,144, Ethernet.
+/// A file header: microseconds, lowest byte first, snapshot length 262,144, Ethernet.
 const HEAD: [u8; 24] = [
     0xD4, 0xC3, 0xB2, 0xA1, 2, 0, 4, 0, 0, 0, 0, 0, 0, 0, 0, 0, 0, 0, 4, 0, 1, 0, 0, 0,
 ];

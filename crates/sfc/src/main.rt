@@ -23,7 +23,7 @@ fn words_of<R: Runtime + AllocGlobal>(rt: &R) -> Result<Words, Status> {
         Err(_) => return Err(Status::Memory),
     };
     for word in args.skip(1) {
-        if words.push(rt.alloc(), word.as_str()).is_err() {
+        if words.push(word.as_str()).is_err() {
             return Err(Status::Memory);
         }
     }

@@ -1,4 +1,4 @@
-use sfc_desk::{MemoryDesk, Port};
+use sfc_desk::{Desk, MemoryDesk, Port};
 use sfc_program::{CaptureReason, OpenGate, Status, Words, sfc_call, status_line};
 use std::alloc::{AllocError, Global};
 use std::test::Fail;
@@ -26,7 +26,7 @@ fn desk_of(alloc: Global, capture: &[u8], fail: &[u64]) -> Result<MemoryDesk, Ou
         listed.push(*number)?;
     }
     let mut desk = MemoryDesk::new(alloc, 7, listed, 1000)?;
-    desk.add_file(alloc, "K", capture)?;
+    desk.add_file("K", capture)?;
     Ok(desk)
 }
 
@@ -34,9 +34,15 @@ fn desk_of(alloc: Global, capture: &[u8], fail: &[u64]) -> Result<MemoryDesk, Ou
 fn words_of(alloc: Global, line: &str) -> Result<Words, OutOfMemory> {
     let mut words = Words::new(alloc);
     for word in line.split_whitespace() {
-        words.push(alloc, word)?;
+        words.push(word)?;
     }
     Ok(words)
+}
+
+/// How the command of a line ends over the desk.
+fn end_of(alloc: Global, line: &str, desk: &mut MemoryDesk) -> Result<Status, OutOfMemory> {
+    let words = words_of(alloc, line)?;
+    Ok(sfc_call(alloc, &words, desk, &OpenGate))
 }
 
 #[test]
@@ -49,12 +55,7 @@ fn two_and_sixty_one_passes_leave_the_frame(rt: HostRuntime) -> Result<(), Fail>
         "walk 16777215 61 K out",
     ] {
         let mut desk = desk_of(rt.alloc(), &capture, &[])?;
-        let status = sfc_call(
-            rt.alloc(),
-            &words_of(rt.alloc(), line)?,
-            &mut desk,
-            &OpenGate,
-        );
+        let status = end_of(rt.alloc(), line, &mut desk)?;
         assert_eq!(rt; status, Status::Ok, "{line}");
         assert_eq!(rt; desk.output(Port::Egress), capture.as_slice(), "{line}");
     }
@@ -66,12 +67,7 @@ fn sixty_two_passes_run_out_of_ttl(rt: HostRuntime) -> Result<(), Fail> {
     let capture = one_frame(rt.alloc())?;
     for line in ["walk 42 62 K out", "walk 42 255 K out"] {
         let mut desk = desk_of(rt.alloc(), &capture, &[])?;
-        let status = sfc_call(
-            rt.alloc(),
-            &words_of(rt.alloc(), line)?,
-            &mut desk,
-            &OpenGate,
-        );
+        let status = end_of(rt.alloc(), line, &mut desk)?;
         assert_eq!(rt; status, Status::Ok, "{line}");
         assert_eq!(rt; desk.output(Port::Egress), HEAD.as_slice(), "{line}");
     }
@@ -92,37 +88,32 @@ fn refuses_words_outside_the_grammar(rt: HostRuntime) -> Result<(), Fail> {
         "walk 42 2 K out more",
         "run 42 2 K out",
     ] {
-        // both binds would succeed, and no call is made
         let mut desk = desk_of(rt.alloc(), &capture, &[0])?;
-        let status = sfc_call(
-            rt.alloc(),
-            &words_of(rt.alloc(), line)?,
-            &mut desk,
-            &OpenGate,
-        );
+        let status = end_of(rt.alloc(), line, &mut desk)?;
         assert_eq!(rt; status, Status::Words, "{line}");
         assert_eq!(rt; status_line(&status).as_str(), "words");
+        // call 0 is the one that fails, so no call came before this bind
+        assert!(rt; desk.bind(Port::Capture, "K").is_err(), "{line}");
     }
     Ok(())
 }
 
 #[test]
-fn a_failing_read_is_told_and_leaves_the_egress_empty(rt: HostRuntime) -> Result<(), Fail> {
+fn a_failing_call_is_told_and_leaves_the_egress_empty(rt: HostRuntime) -> Result<(), Fail> {
     let capture = one_frame(rt.alloc())?;
     // calls 0 and 1 are the binds, call 2 is the first read of 7 bytes, call 17 the one that finds the
     // end of the 100 bytes, and call 18 the one write
-    for (call, port, length) in [
-        (0, Port::Capture, 0),
-        (1, Port::Egress, 0),
-        (2, Port::Capture, 0),
-        (17, Port::Capture, 0),
-        (18, Port::Egress, 0),
+    for (call, port) in [
+        (0, Port::Capture),
+        (1, Port::Egress),
+        (2, Port::Capture),
+        (17, Port::Capture),
+        (18, Port::Egress),
     ] {
         let mut desk = desk_of(rt.alloc(), &capture, &[call])?;
-        let words = words_of(rt.alloc(), "walk 42 2 K out")?;
-        let status = sfc_call(rt.alloc(), &words, &mut desk, &OpenGate);
+        let status = end_of(rt.alloc(), "walk 42 2 K out", &mut desk)?;
         assert_eq!(rt; status, Status::File(port), "call {call}");
-        assert_eq!(rt; desk.output(Port::Egress).len(), length, "call {call}");
+        assert_eq!(rt; desk.output(Port::Egress).len(), 0, "call {call}");
     }
     let file = Status::File(Port::Capture);
     assert_eq!(rt;
@@ -133,11 +124,14 @@ fn a_failing_read_is_told_and_leaves_the_egress_empty(rt: HostRuntime) -> Result
 }
 
 #[test]
-fn an_absent_capture_is_a_file_fault(rt: HostRuntime) -> Result<(), Fail> {
+fn an_absent_capture_is_a_file_fault_and_binds_no_egress(rt: HostRuntime) -> Result<(), Fail> {
     let mut desk = MemoryDesk::new(rt.alloc(), 7, List::new(rt.alloc()), 1000)?;
-    let words = words_of(rt.alloc(), "walk 42 2 K out")?;
-    let status = sfc_call(rt.alloc(), &words, &mut desk, &OpenGate);
+    desk.bind(Port::Egress, "before")?;
+    desk.write(Port::Egress, b"abc")?;
+    let status = end_of(rt.alloc(), "walk 42 2 K out", &mut desk)?;
     assert_eq!(rt; status, Status::File(Port::Capture));
+    // a bind would have emptied it
+    assert_eq!(rt; desk.output(Port::Egress), b"abc".as_slice());
     Ok(())
 }
 
@@ -149,8 +143,7 @@ fn refuses_a_capture_of_another_form(rt: HostRuntime) -> Result<(), Fail> {
     ];
     for capture in [[].as_slice(), other.as_slice()] {
         let mut desk = desk_of(rt.alloc(), capture, &[])?;
-        let words = words_of(rt.alloc(), "walk 42 2 K out")?;
-        let status = sfc_call(rt.alloc(), &words, &mut desk, &OpenGate);
+        let status = end_of(rt.alloc(), "walk 42 2 K out", &mut desk)?;
         assert_eq!(rt; status, Status::Capture(0, CaptureReason::Form));
         assert_eq!(rt; status.number(), 5);
         assert_eq!(rt; status_line(&status).as_str(), "capture 0 form");
@@ -173,8 +166,7 @@ const ONE_ITEM_LINES: &[u8] =
 #[test]
 fn a_header_with_an_odd_pad_is_shown(rt: HostRuntime) -> Result<(), Fail> {
     let mut desk = desk_of(rt.alloc(), &ONE_ITEM, &[])?;
-    let words = words_of(rt.alloc(), "show nsh K")?;
-    let status = sfc_call(rt.alloc(), &words, &mut desk, &OpenGate);
+    let status = end_of(rt.alloc(), "show nsh K", &mut desk)?;
     assert_eq!(rt; status, Status::Ok);
     assert!(rt; desk.output(Port::Report) == ONE_ITEM_LINES);
     Ok(())
@@ -195,8 +187,7 @@ fn a_refusal_is_a_line_and_no_status(rt: HostRuntime) -> Result<(), Fail> {
     ];
     for (bytes, line) in cases {
         let mut desk = desk_of(rt.alloc(), bytes, &[])?;
-        let words = words_of(rt.alloc(), "show nsh K")?;
-        let status = sfc_call(rt.alloc(), &words, &mut desk, &OpenGate);
+        let status = end_of(rt.alloc(), "show nsh K", &mut desk)?;
         assert_eq!(rt; status, Status::Ok);
         assert!(rt; desk.output(Port::Report) == line);
     }
@@ -206,8 +197,7 @@ fn a_refusal_is_a_line_and_no_status(rt: HostRuntime) -> Result<(), Fail> {
 #[test]
 fn an_absent_source_is_a_file_fault(rt: HostRuntime) -> Result<(), Fail> {
     let mut desk = desk_of(rt.alloc(), &ONE_ITEM, &[])?;
-    let words = words_of(rt.alloc(), "show nsh other")?;
-    let status = sfc_call(rt.alloc(), &words, &mut desk, &OpenGate);
+    let status = end_of(rt.alloc(), "show nsh other", &mut desk)?;
     assert_eq!(rt; status, Status::File(Port::Source));
     assert_eq!(rt;
         (
@@ -231,15 +221,15 @@ fn refuses_words_that_show_nothing(rt: HostRuntime) -> Result<(), Fail> {
         "show bytes x",
         "nsh show K",
     ] {
-        // a bind would fail, and no call is made
         let mut desk = desk_of(rt.alloc(), &ONE_ITEM, &[0])?;
-        let words = words_of(rt.alloc(), line)?;
-        let status = sfc_call(rt.alloc(), &words, &mut desk, &OpenGate);
+        let status = end_of(rt.alloc(), line, &mut desk)?;
         assert_eq!(rt; status, Status::Words, "{line}");
         assert_eq!(rt; desk.output(Port::Report).len(), 0);
+        // call 0 is the one that fails, so no call came before this bind
+        assert!(rt; desk.bind(Port::Source, "K").is_err(), "{line}");
     }
     let mut words = words_of(rt.alloc(), "show nsh")?;
-    words.push(rt.alloc(), "")?;
+    words.push("")?;
     let mut desk = desk_of(rt.alloc(), &ONE_ITEM, &[])?;
     let status = sfc_call(rt.alloc(), &words, &mut desk, &OpenGate);
     assert_eq!(rt; status, Status::Words);
@@ -257,8 +247,7 @@ fn a_failing_call_of_show_nsh_is_told(rt: HostRuntime) -> Result<(), Fail> {
         (6, Port::Report),
     ] {
         let mut desk = desk_of(rt.alloc(), &ONE_ITEM, &[call])?;
-        let words = words_of(rt.alloc(), "show nsh K")?;
-        let status = sfc_call(rt.alloc(), &words, &mut desk, &OpenGate);
+        let status = end_of(rt.alloc(), "show nsh K", &mut desk)?;
         assert_eq!(rt; status, Status::File(port), "call {call}");
         assert_eq!(rt; desk.output(Port::Report).len(), 0, "call {call}");
     }
@@ -268,9 +257,8 @@ fn a_failing_call_of_show_nsh_is_told(rt: HostRuntime) -> Result<(), Fail> {
 #[test]
 fn a_report_without_room_is_a_file_fault(rt: HostRuntime) -> Result<(), Fail> {
     let mut desk = MemoryDesk::new(rt.alloc(), 7, List::new(rt.alloc()), 14)?;
-    desk.add_file(rt.alloc(), "K", &ONE_ITEM)?;
-    let words = words_of(rt.alloc(), "show nsh K")?;
-    let status = sfc_call(rt.alloc(), &words, &mut desk, &OpenGate);
+    desk.add_file("K", &ONE_ITEM)?;
+    let status = end_of(rt.alloc(), "show nsh K", &mut desk)?;
     assert_eq!(rt; status, Status::File(Port::Report));
     assert_eq!(rt; status_line(&status).as_str(), "file report");
     assert_eq!(rt; desk.output(Port::Report).len(), 0);
@@ -281,9 +269,8 @@ fn a_report_without_room_is_a_file_fault(rt: HostRuntime) -> Result<(), Fail> {
 fn a_header_is_shown_in_pieces_of_any_size(rt: HostRuntime) -> Result<(), Fail> {
     for piece in 1..24 {
         let mut desk = MemoryDesk::new(rt.alloc(), piece, List::new(rt.alloc()), 1000)?;
-        desk.add_file(rt.alloc(), "K", &ONE_ITEM)?;
-        let words = words_of(rt.alloc(), "show nsh K")?;
-        let status = sfc_call(rt.alloc(), &words, &mut desk, &OpenGate);
+        desk.add_file("K", &ONE_ITEM)?;
+        let status = end_of(rt.alloc(), "show nsh K", &mut desk)?;
         assert_eq!(rt; status, Status::Ok, "in pieces of {piece}");
         assert!(rt;
             desk.output(Port::Report) == ONE_ITEM_LINES,
@@ -320,8 +307,7 @@ fn a_stream_of_messages_is_shown(rt: HostRuntime) -> Result<(), Fail> {
     ];
     for (bytes, text) in cases {
         let mut desk = desk_of(rt.alloc(), bytes, &[])?;
-        let words = words_of(rt.alloc(), "show bgp K")?;
-        let status = sfc_call(rt.alloc(), &words, &mut desk, &OpenGate);
+        let status = end_of(rt.alloc(), "show bgp K", &mut desk)?;
         assert_eq!(rt; status, Status::Ok);
         assert!(rt; desk.output(Port::Report) == text);
     }
@@ -334,8 +320,7 @@ fn an_update_that_is_refused_has_one_line(rt: HostRuntime) -> Result<(), Fail> {
     let mut bad = ANNOUNCED;
     bad[85] = 5;
     let mut desk = desk_of(rt.alloc(), &bad, &[])?;
-    let words = words_of(rt.alloc(), "show bgp K")?;
-    let status = sfc_call(rt.alloc(), &words, &mut desk, &OpenGate);
+    let status = end_of(rt.alloc(), "show bgp K", &mut desk)?;
     assert_eq!(rt; status, Status::Ok);
     assert!(rt;
         desk.output(Port::Report)

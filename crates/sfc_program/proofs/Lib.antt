@@ -1,6 +1,7 @@
 pub mod StaticLemmas
 pub mod WalkLemmas
 pub mod WalkEnds
+pub mod EgressLemmas
 pub mod WordLemmas
 pub mod FrontLemmas
 pub mod PieceLemmas

@@ -47,7 +47,7 @@ of_row row.Walk words tells held then now answer is call = record {
   );
   runs = λ command spells.
       let one = spells_walk words command is spells in
-      subst (λ (c : Command). Runs c tells held then now answer) (sym one.1) (call.runs one.0 one.2);
+      subst (λ (c : Command). Runs c tells held then now answer) (sym one.1) (call.runs one.0 one.2, call.only one.0 one.2);
   untouched = call.untouched;
   exact = λ command wanted spells wants told none some.
       let one = spells_walk words command is spells in
@@ -60,7 +60,7 @@ of_row row.Show words tells held then now answer is call = record {
   );
   runs = λ command spells.
       let one = spells_show words command is spells in
-      subst (λ (c : Command). Runs c tells held then now answer) (sym one.1) (call.runs one.0 one.2);
+      subst (λ (c : Command). Runs c tells held then now answer) (sym one.1) (call.runs one.0 one.2, call.only one.0 one.2);
   untouched = call.untouched;
   exact = λ command wanted spells wants told none some.
       let one = spells_show words command is spells in

@@ -165,3 +165,10 @@ report_fails show tells held then mid now same rose = record {
   named = refl;
   cause = inr (subst (λ (s : Shown). Rose s (now ports.Report)) same rose);
 }
+
+-- a port without a name is none of the command's
+pub unnamed_port : (show : Show) (port : Port) → show_names show port ≡ None → (port ≢ ports.Source) × (port ≢ ports.Report)
+unnamed_port show port none = (
+  λ is. let unnamed : show_names show ports.Source ≡ None = subst (λ (p : Port). show_names show p ≡ None) is none in cc,
+  λ is. let unnamed : show_names show ports.Report ≡ None = subst (λ (p : Port). show_names show p ≡ None) is none in cc,
+)

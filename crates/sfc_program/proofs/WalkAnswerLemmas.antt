@@ -131,3 +131,10 @@ served walk tells held then now answer runs refused = subst (λ (s : Status). Wa
 -- what is said of the walk of the words is said of every walk of them
 pub runs_of_words : (words : List (List ℕ)) (said walk : Walk) (tells : Bool) (held : Files) (then now : Port → Shown) (answer : Status) → IsWalk words said → IsWalk words walk → WalkRuns said tells held then now answer → WalkRuns walk tells held then now answer
 runs_of_words words said walk tells held then now answer is_said is_walk runs = subst (λ (w : Walk). WalkRuns w tells held then now answer) (one_walk words said walk is_said is_walk) runs
+
+-- a port without a name is none of the walk's
+pub unnamed_port : (walk : Walk) (port : Port) → walk_names walk port ≡ None → (port ≢ ports.Capture) × (port ≢ ports.Egress)
+unnamed_port walk port none = (
+  λ is. let unnamed : walk_names walk ports.Capture ≡ None = subst (λ (p : Port). walk_names walk p ≡ None) is none in cc,
+  λ is. let unnamed : walk_names walk ports.Egress ≡ None = subst (λ (p : Port). walk_names walk p ≡ None) is none in cc,
+)

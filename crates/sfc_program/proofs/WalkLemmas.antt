@@ -7,7 +7,8 @@ use Rattle.wire_base.specs.declared.ids.InstanceId.{InstanceId}
 use Rattle.sfc_program.specs.Answers.{IsAnswer}
 use Rattle.sfc_program.specs.declared.paths.Answer.TheVariants.{At}
 use Rattle.sfc_program.specs.declared.walks.End.{End}
-use Rattle.sfc_program.specs.Walks.{EndsAt, GoesOnAt, IsOwnHop, moved, Station, WalkFrom, WalksTo, first_header, first_station, here, served, static_table}
+use Rattle.sfc_program.specs.TurnSteps.{EndsAt, GoesOnAt, IsOwnHop, served}
+use Rattle.sfc_program.specs.Walks.{moved, Station, WalkFrom, WalksTo, first_header, first_station, here, static_table}
 
 -- a station whose header is these bytes, from which every walk is one from the first station
 pub record Stands (spi count : ℕ) (frame header : List ℕ) : Type 0 where

@@ -1,5 +1,5 @@
 -- What a table of service paths says of a service path identifier and a service index.
-use Rattle.std.specs.Prelude.{◌≡◌, ◌≢◌, ◌<◌, ◌≤◌, ℕ, List, Option, Some, None, All, Contains}
+use Rattle.std.specs.Prelude.{◌≡◌, ◌≢◌, ◌<◌, ◌≤◌, ℕ, List, Some, None, All, Contains}
 use Rattle.sfc_program.specs.declared.paths.Answer.{Answer}
 use Rattle.sfc_program.specs.declared.paths.Answer.TheVariants.{NoPath, Ended, NoInstance, At}
 use Rattle.sfc_program.specs.declared.paths.HopRow.{HopRow}
@@ -31,8 +31,3 @@ IsAnswer table spi si (NoInstance at) = (row : HopRow) × IsServing table spi si
 -- the serving hop has this forwarder and this instance
 IsAnswer table spi si (At at forwarder instance) =
     (row : HopRow) × IsServing table spi si row × (row.si ≡ at) × (row.choice ≡ Some (forwarder, instance))
-
--- a hop serves the index, and has a greater one than the best hop before
-abbrev pub Improves : HopRow → Option HopRow → ℕ → Type 0
-Improves row None si = row.si ≤ si
-Improves row (Some other) si = (row.si ≤ si) × (other.si < row.si)

@@ -1,5 +1,5 @@
 -- What every command says of its files: a word for each port that it binds, and when a call on one failed.
-use Rattle.std.specs.Prelude.{◌≡◌, ◌⊎◌, ℕ, Bool, List, Option, Some}
+use Rattle.std.specs.Prelude.{◌≡◌, ◌⊎◌, ℕ, Bool, List, Option, Some, None}
 use Rattle.sfc_desk.specs.declared.ports.Port.{Port}
 use Rattle.sfc_desk.specs.Desks.{Shown, Files, Rose, IsAbsent}
 
@@ -16,3 +16,7 @@ pub record FailsAs (names : Names) (tells : Bool) (held : Files) (then now : Por
 -- no count of faults rose
 abbrev pub NoneRose : (Port → Shown) → (Port → Shown) → Type 0
 NoneRose then now = (port : Port) → Rose (then port) (now port) → ⊥
+
+-- no port changed that the command does not name
+abbrev pub OnlyNamed : Names → (Port → Shown) → (Port → Shown) → Type 0
+OnlyNamed names then now = (port : Port) → names port ≡ None → now port ≡ then port

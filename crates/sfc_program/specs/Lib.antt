@@ -1,5 +1,6 @@
 pub mod Answers
 pub mod Walks
+pub mod TurnSteps
 pub mod Commands
 pub mod WalkCommand
 pub mod ShowCommand

@@ -6,8 +6,9 @@ use Rattle.sfc_program.specs.declared.sfc_calls.Row.{Row}
 use Rattle.sfc_program.specs.declared.sfc_calls.Row.TheVariants as row
 use Rattle.sfc_program.specs.declared.statuses.Status.{Status}
 use Rattle.sfc_program.specs.declared.statuses.Status.TheVariants as status
-use Rattle.sfc_program.specs.WalkCommand.{Walk, IsWalk, WalkRuns, WalkWants, WalkCall}
-use Rattle.sfc_program.specs.ShowCommand.{Show, IsShow, ShowRuns, ShowWants, ShowCall}
+use Rattle.sfc_program.specs.Commands.{OnlyNamed}
+use Rattle.sfc_program.specs.WalkCommand.{Walk, IsWalk, WalkRuns, WalkWants, WalkCall, walk_names}
+use Rattle.sfc_program.specs.ShowCommand.{Show, IsShow, ShowRuns, ShowWants, ShowCall, show_names}
 
 -- a command with what its words say
 pub data Command : Type 0 where
@@ -19,10 +20,10 @@ abbrev pub Spells : List (List ℕ) → Command → Type 0
 Spells words (walk said) = IsWalk words said
 Spells words (show said) = IsShow words said
 
--- what each answer says
+-- what each answer says, and that no other port changed
 abbrev pub Runs : Command → Bool → Files → (Port → Shown) → (Port → Shown) → Status → Type 0
-Runs (walk said) tells held old new answer = WalkRuns said tells held old new answer
-Runs (show said) tells held old new answer = ShowRuns said tells held old new answer
+Runs (walk said) tells held old new answer = WalkRuns said tells held old new answer × OnlyNamed (walk_names said) old new
+Runs (show said) tells held old new answer = ShowRuns said tells held old new answer × OnlyNamed (show_names said) old new
 
 -- what the files ask for
 abbrev pub Wants : Command → Files → Status → Type 0

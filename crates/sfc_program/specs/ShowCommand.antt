@@ -9,7 +9,7 @@ use Rattle.sfc_program.specs.declared.show_command.Format.{Format}
 use Rattle.sfc_program.specs.declared.show_command.Format.TheVariants as formats
 use Rattle.sfc_program.specs.declared.statuses.Status.{Status}
 use Rattle.sfc_program.specs.declared.statuses.Status.TheVariants as status
-use Rattle.sfc_program.specs.Commands.{Names, FailsAs, NoneRose}
+use Rattle.sfc_program.specs.Commands.{Names, FailsAs, NoneRose, OnlyNamed}
 use Rattle.sfc_program.specs.Fronts.{IsFrontBehind}
 
 -- the word of a format
@@ -93,5 +93,6 @@ ShowWants show held _ = ⊥
 pub record ShowCall (words : List (List ℕ)) (tells : Bool) (held : Files) (then now : Port → Shown) (answer : Status) : Type 0 where
   pub words_fault : (answer ≡ status.Words) ↔ ((show : Show) → IsShow words show → ⊥)
   pub runs : (show : Show) → IsShow words show → ShowRuns show tells held then now answer
+  pub only : (show : Show) → IsShow words show → OnlyNamed (show_names show) then now
   pub untouched : answer ≡ status.Words → (port : Port) → now port ≡ then port
   pub exact : (show : Show) (wanted : Status) → IsShow words show → ShowWants show held wanted → tells ≡ true → NoneRose then now → answer ≢ status.Memory → answer ≡ wanted

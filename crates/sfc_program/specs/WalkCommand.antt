@@ -12,7 +12,7 @@ use Rattle.sfc_program.specs.declared.statuses.Status.{Status}
 use Rattle.sfc_program.specs.declared.statuses.Status.TheVariants as status
 use Rattle.sfc_program.specs.declared.walks.End.{End}
 use Rattle.sfc_program.specs.declared.walks.End.TheVariants.{Egress, Drop}
-use Rattle.sfc_program.specs.Commands.{Names, FailsAs, NoneRose}
+use Rattle.sfc_program.specs.Commands.{Names, FailsAs, NoneRose, OnlyNamed}
 use Rattle.sfc_program.specs.Fronts.{IsFront}
 use Rattle.sfc_program.specs.Walks.{WalksTo}
 
@@ -136,5 +136,6 @@ WalkWants walk held _ = ⊥
 pub record WalkCall (words : List (List ℕ)) (tells : Bool) (held : Files) (then now : Port → Shown) (answer : Status) : Type 0 where
   pub words_fault : (answer ≡ status.Words) ↔ ((walk : Walk) → IsWalk words walk → ⊥)
   pub runs : (walk : Walk) → IsWalk words walk → WalkRuns walk tells held then now answer
+  pub only : (walk : Walk) → IsWalk words walk → OnlyNamed (walk_names walk) then now
   pub untouched : answer ≡ status.Words → (port : Port) → now port ≡ then port
   pub exact : (walk : Walk) (wanted : Status) → IsWalk words walk → WalkWants walk held wanted → tells ≡ true → NoneRose then now → answer ≢ status.Memory → answer ≡ wanted

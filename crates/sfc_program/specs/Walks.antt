@@ -1,23 +1,19 @@
 -- The walk of a frame: stations at forwarders, joined by turns, to an end (RFC 7665, section 4.3; RFC 8300, sections 2.2
 -- and 2.3). The function of every hop is `pass`, which serves every frame, drops none and changes none.
-use Rattle.std.specs.Prelude.{◌≡◌, ◌≢◌, ◌<◌, ℕ, zero, suc, ◌-◌, ◌⊎◌, List, [], ◌∷◌, ◌++◌, Some, false}
+use Rattle.std.specs.Prelude.{◌≡◌, ◌≢◌, ℕ, zero, suc, ◌-◌, ◌⊎◌, List, [], ◌∷◌, ◌++◌, Some, false}
 use Rattle.wire_base.specs.declared.ids.ForwarderId.{ForwarderId}
 use Rattle.wire_base.specs.declared.ids.InstanceId.{InstanceId}
 use Rattle.nsh_headers.specs.declared.heads.NshHead.{NshHead}
-use Rattle.nsh_headers.specs.Head.{IsHead}
 use Rattle.nsh_headers.specs.Edit.{lowered, with_si, with_ttl}
-use Rattle.sfc_program.specs.declared.paths.Answer.{Answer}
 use Rattle.sfc_program.specs.declared.paths.Answer.TheVariants.{NoPath as NoSuchPath, Ended, NoInstance as NoneThere, At}
 use Rattle.sfc_program.specs.declared.paths.HopRow.{HopRow}
 use Rattle.sfc_program.specs.declared.paths.Path.{Path}
 use Rattle.sfc_program.specs.declared.walks.End.{End}
 use Rattle.sfc_program.specs.declared.walks.End.TheVariants.{Egress, Drop}
 use Rattle.sfc_program.specs.declared.walks.Reason.TheVariants.{Ttl, NoPath, NoInstance}
-use Rattle.sfc_program.specs.declared.slow_walks.Next.{Next}
-use Rattle.sfc_program.specs.declared.slow_walks.Next.TheVariants.{Done, Served, Handed}
 use Rattle.sfc_program.specs.Answers.{IsAnswer}
 
--- where a frame stands: at which forwarder, with which header, and which instances it has visited
+-- where a frame stands: at which forwarder (RFC 7665, section 4.3), with which header, and which instances it has visited
 pub record Station : Type 0 where
   pub forwarder : ForwarderId
   pub frame : List ℕ
@@ -29,7 +25,7 @@ pub data Outcome : Type 0 where
   Ends : End → Outcome
   GoesOn : Station → Outcome
 
--- the function `pass`
+-- the function `pass` (RFC 7665, section 4.2)
 abbrev pub pass : List ℕ → List ℕ
 pass frame = frame
 
@@ -41,18 +37,21 @@ IsUnderWay s = lowered s.header.base.ttl ≢ 0
 abbrev pub moved : NshHead → ℕ → NshHead
 moved header si = with_si (with_ttl header (lowered header.base.ttl)) si
 
--- another forwarder serves the packet: it is handed to it, with the index of the serving hop
+-- another forwarder serves the packet: it is handed to it, with the index of the serving hop (RFC 7665, section 4.3)
 abbrev pub IsHanded : List Path → Station → Station → Type 0
 IsHanded table s next = (at : ℕ) × (other : ForwarderId) × (instance : InstanceId)
     × IsAnswer table s.header.path.spi s.header.path.si (At at other instance) × (other ≢ s.forwarder)
     × (next ≡ record s { forwarder = other; header = moved s.header at })
 
--- an instance at this forwarder serves it: the index is then one below the serving hop's
+-- an instance at this forwarder serves it: the index is then one below the serving hop's (RFC 8300, section 2.3)
 abbrev pub IsServed : List Path → Station → Station → Type 0
 IsServed table s next = (at : ℕ) × (instance : InstanceId)
     × IsAnswer table s.header.path.spi s.header.path.si (At at s.forwarder instance)
     × (next ≡ record s { frame = pass s.frame; header = moved s.header (at - 1); visits = s.visits ++ instance ∷ [] })
 
+-- What a forwarder does with a packet: it lowers the TTL (RFC 8300, section 2.2), asks the table by SPI and SI (RFC 8300,
+-- section 2.3), and drops it, lets it out, or sends it on (RFC 7665, section 4.3). That the TTL is lowered for each lookup,
+-- also for the one after an instance hands the frame back, is this project's own.
 abbrev pub Turn : List Path → Station → Outcome → Type 0
 -- the lowered TTL is 0, and no table is asked
 Turn table s (Ends (Drop Ttl)) = lowered s.header.base.ttl ≡ 0
@@ -61,13 +60,15 @@ Turn table s (Ends (Drop (NoInstance at))) = IsUnderWay s × IsAnswer table s.he
 Turn table s (Ends Egress) = IsUnderWay s × IsAnswer table s.header.path.spi s.header.path.si Ended
 Turn table s (GoesOn next) = IsUnderWay s × (IsHanded table s next ⊎ IsServed table s next)
 
--- each station is a turn after the one before, and the last turn ends the walk so
+-- Each station is a turn after the one before, and the last turn ends the walk so. That a walk is told by its whole list of
+-- stations is this project's own.
 abbrev pub WalkFrom : List Path → List Station → End → Type 0
 WalkFrom table [] end = ⊥
 WalkFrom table (last ∷ []) end = Turn table last (Ends end)
 WalkFrom table (s ∷ next ∷ others) end = Turn table s (GoesOn next) × WalkFrom table (next ∷ others) end
 
--- the header that a classifier puts on: Ethernet behind it, no metadata (MD Type 2), TTL 63, SI 255
+-- the header that a classifier puts on: Ethernet behind it, no metadata (MD Type 2), TTL 63, SI 255 (RFC 8300, sections 2.2
+-- and 2.3)
 abbrev pub first_header : ℕ → NshHead
 first_header spi = record {
   base = record { oam = false; spare1 = false; ttl = 63; words = 2; spare4 = 0; md = 2; next = 3 };
@@ -99,39 +100,3 @@ first_station spi frame = record { forwarder = here; frame = frame; header = fir
 abbrev pub WalksTo : ℕ → ℕ → List ℕ → End → Type 0
 WalksTo spi count frame end =
     (stations : List Station) × WalkFrom (static_table spi count) (first_station spi frame ∷ stations) end
-
--- where a hop of the static path serves an index, it is the hop of this index
-abbrev pub IsOwnHop : ℕ → Answer → Type 0
-IsOwnHop si (At at forwarder instance) = (0 < at) × (at ≡ si) × (forwarder ≡ here) × (instance ≡ record { 0 = 255 - si })
-IsOwnHop si _ = Unit {0}
-
--- the station after an instance of the static path has served: its hop is the one with the packet's index
-abbrev pub served : Station → Station
-served s = record s {
-  frame = pass s.frame;
-  header = moved s.header (s.header.path.si - 1);
-  visits = s.visits ++ record { 0 = 255 - s.header.path.si } ∷ [];
-}
-
--- the walk goes on from s, and these bytes spell the header that it goes on with
-pub record GoesOnAt (spi count : ℕ) (s : Station) (header : List ℕ) : Type 0 where
-  pub turn : Turn (static_table spi count) s (GoesOn (served s))
-  pub spelled : IsHead header (served s).header
-
--- the walk ends at s
-abbrev pub EndsAt : ℕ → ℕ → Station → End → Type 0
-EndsAt spi count s end = Turn (static_table spi count) s (Ends end)
-
--- what a turn of the slow walk says
-abbrev pub LeadsTo : List Path → Station → Next → Type 0
-LeadsTo table s (Done end) = Turn table s (Ends end)
-LeadsTo table s (Served header instance) =
-    Turn table s (GoesOn (record s { header = header; visits = s.visits ++ instance ∷ [] }))
-LeadsTo table s (Handed header forwarder) = Turn table s (GoesOn (record s { forwarder = forwarder; header = header }))
-
--- a hop at a forwarder: its instance there lowers the index, or the packet is handed to it
-abbrev pub AtHop : NshHead → ForwarderId → ForwarderId → InstanceId → Next → Type 0
-AtHop header forwarder other instance (Done end) = ⊥
-AtHop header forwarder other instance (Served after by) =
-    (other ≡ forwarder) × (by ≡ instance) × (after ≡ with_si header (header.path.si - 1))
-AtHop header forwarder other instance (Handed after to) = (other ≢ forwarder) × (to ≡ other) × (after ≡ header)

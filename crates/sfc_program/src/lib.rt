@@ -28,7 +28,7 @@
 //!
 //! ```text
 //! let mut words = Words::new(alloc);
-//! words.push(alloc, "walk")?;                       // and so on, to "out"
+//! words.push("walk")?;                              // and so on, to "out"
 //! let status = sfc_call(alloc, &words, &mut desk, &OpenGate);
 //! let line = status_line(&status);                  // ok
 //! ```
@@ -54,7 +54,7 @@ mod words;
 mod writing;
 
 pub use gates::{Gate, OpenGate};
-pub use laws::sixty_one_functions_spend_the_ttl;
+pub use laws::{every_frame_comes_out_or_none, sixty_one_functions_spend_the_ttl};
 pub use paths::{Answer, HopRow, Path};
 pub use sfc_calls::sfc_call;
 pub use show_command::show_call;

@@ -18,7 +18,7 @@ fn an_input_is_long_from_one_byte_past_its_limit(rt: HostRuntime) -> Result<(), 
         // one byte a read, and all bytes in one
         for piece in [1, 100] {
             let mut desk = MemoryDesk::new(alloc, piece, List::new(alloc), 0)?;
-            desk.add_file(alloc, "K", held)?;
+            desk.add_file("K", held)?;
             desk.bind(Port::Capture, "K").map_err(|_| "held")?;
             let read = read_all(alloc, &mut desk, Port::Capture, limit);
             match read {
@@ -44,7 +44,7 @@ fn a_failed_read_is_told(rt: HostRuntime) -> Result<(), Fail> {
         let mut listed = List::new(alloc);
         listed.push(call)?;
         let mut desk = MemoryDesk::new(alloc, 1, listed, 0)?;
-        desk.add_file(alloc, "K", b"abc")?;
+        desk.add_file("K", b"abc")?;
         desk.bind(Port::Capture, "K").map_err(|_| "held")?;
         let read = read_all(alloc, &mut desk, Port::Capture, 3);
         assert!(rt; matches!(read, Err(ReadFault::File)), "at call {call}");

@@ -2,8 +2,8 @@ ghost use Rattle.std.specs.Prelude.{◌≡◌, ◌≢◌, ◌↔◌, true, Some,
 ghost use Rattle.sfc_desk.specs.Desks.{Files};
 ghost use Rattle.sfc_desk.specs.declared.ports.Port.{Port};
 ghost use Rattle.sfc_program.specs.declared.statuses.Status.{Status as Answered};
-ghost use Rattle.sfc_program.specs.Commands.{NoneRose};
-ghost use Rattle.sfc_program.specs.ShowCommand.{Show, IsShow, Shows, ShowRuns, ShowWants, format_word};
+ghost use Rattle.sfc_program.specs.Commands.{NoneRose, OnlyNamed};
+ghost use Rattle.sfc_program.specs.ShowCommand.{Show, IsShow, Shows, ShowRuns, ShowWants, format_word, show_names};
 ghost use Rattle.sfc_program.specs.ShowSteps.{show_of};
 
 use crate::reading::{ReadFault, read_all};
@@ -83,6 +83,7 @@ fn show_bound<D: Desk>(alloc: Global, desk: &mut D, format: Format) -> Status
     ensures runs { (show : Show) (held : Files) → show.format ≡ format
         → (D.tells ≡ true → held show.source ≡ Some (D.at desk.old Port.Source).left)
         → ShowRuns show D.tells held (D.at desk.old) (D.at desk.new) result }
+    ensures others { (port : Port) → port ≢ Port.Source → port ≢ Port.Report → D.at desk.new port ≡ D.at desk.old port }
 {
     let bytes = match read_all(alloc, desk, Port::Source, SOURCE_LIMIT) {
         Ok(bytes) => bytes,
@@ -102,6 +103,7 @@ fn show_bound<D: Desk>(alloc: Global, desk: &mut D, format: Format) -> Status
 /// What `show` does where its words are said.
 fn run_show<D: Desk>(alloc: Global, desk: &mut D, said: &ShowWords<'_>) -> Status
     ensures runs { ShowRuns (show_of said.now) D.tells (D.held desk.old) (D.at desk.old) (D.at desk.new) result }
+    ensures others { (port : Port) → port ≢ Port.Source → port ≢ Port.Report → D.at desk.new port ≡ D.at desk.old port }
 {
     if desk.bind(Port::Source, said.source).is_err() {
         return Status::File(Port::Source);
@@ -119,6 +121,8 @@ pub fn show_call<D: Desk>(alloc: Global, words: &Words, desk: &mut D) -> Status
     // Each answer has its cause, and says what was written.
     ensures runs { (show : Show) → IsShow words.now show
         → ShowRuns show D.tells (D.held desk.old) (D.at desk.old) (D.at desk.new) result }
+    // No port changes that the command does not name.
+    ensures only { (show : Show) → IsShow words.now show → OnlyNamed (show_names show) (D.at desk.old) (D.at desk.new) }
     // At Words no port is touched.
     ensures untouched { result ≡ Status.Words → (port : Port) → D.at desk.new port ≡ D.at desk.old port }
     // What the files ask for is the answer, where the desk tells, no call failed and memory was there.

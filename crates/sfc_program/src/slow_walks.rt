@@ -4,9 +4,10 @@
 //! turn after the other. The header is a value and never bytes. It shares no function with `walk_frame`.
 
 ghost use Rattle.std.specs.Prelude.{◌≡◌, ◌≢◌, ◌+◌, ◌-◌, ◌≤◌, ◌<◌, ◌++◌, IfOk, IfSome, IfNone, MatchBool, MatchOption, All, Contains};
-ghost use Rattle.sfc_program.specs.Answers.{HasPath, Improves, IsAnswer, Serves};
+ghost use Rattle.sfc_program.specs.Answers.{HasPath, IsAnswer, Serves};
 ghost use Rattle.nsh_headers.specs.Edit.{lowered, with_si, with_ttl};
-ghost use Rattle.sfc_program.specs.Walks.{AtHop, LeadsTo, Station, WalksTo, first_header, static_rows, static_table};
+ghost use Rattle.sfc_program.specs.TurnSteps.{AtHop, Improves, LeadsTo};
+ghost use Rattle.sfc_program.specs.Walks.{Station, WalksTo, first_header, static_rows, static_table};
 
 use crate::paths::{Answer, HopRow, Path};
 use crate::walks::{End, Reason, StaticPath};

@@ -6,9 +6,9 @@ ghost use Rattle.sfc_desk.specs.declared.ports.Port.{Port};
 ghost use Rattle.pcap_io.specs.declared.frames.Captured.{Captured as Frame};
 ghost use Rattle.pcap_io.specs.Captures.{IsWithinLimits, packet, plain_form};
 ghost use Rattle.sfc_program.specs.declared.statuses.Status.{Status as Answered};
-ghost use Rattle.sfc_program.specs.Commands.{NoneRose};
+ghost use Rattle.sfc_program.specs.Commands.{NoneRose, OnlyNamed};
 ghost use Rattle.sfc_program.specs.Fronts.{IsFront};
-ghost use Rattle.sfc_program.specs.WalkCommand.{Walk, IsWalk, WalksOf, WalkRuns, WalkWants, egress_of, egress_packet, egress_packets};
+ghost use Rattle.sfc_program.specs.WalkCommand.{Walk, IsWalk, WalksOf, WalkRuns, WalkWants, egress_of, egress_packet, egress_packets, walk_names};
 ghost use Rattle.sfc_program.specs.WalkSteps.{walk_of, EndsOf, WalksInto, ReadsFrames};
 
 use crate::reading::{PIECE, ReadFault, read_all};
@@ -198,6 +198,7 @@ fn walk_bound<D: Desk>(alloc: Global, desk: &mut D, path: &StaticPath) -> Status
     ensures runs { (walk : Walk) (held : Files) → walk.spi ≡ path.now.spi → walk.count ≡ path.now.count
         → (D.tells ≡ true → held walk.capture ≡ Some (D.at desk.old Port.Capture).left)
         → WalkRuns walk D.tells held (D.at desk.old) (D.at desk.new) result }
+    ensures others { (port : Port) → port ≢ Port.Capture → port ≢ Port.Egress → D.at desk.new port ≡ D.at desk.old port }
 {
     let frames = match read_frames(alloc, desk) {
         Ok(frames) => frames,
@@ -213,6 +214,7 @@ fn walk_bound<D: Desk>(alloc: Global, desk: &mut D, path: &StaticPath) -> Status
 /// What `walk` does where its words are said.
 fn run_walk<D: Desk>(alloc: Global, desk: &mut D, said: &WalkWords<'_>) -> Status
     ensures runs { WalkRuns (walk_of said.now) D.tells (D.held desk.old) (D.at desk.old) (D.at desk.new) result }
+    ensures others { (port : Port) → port ≢ Port.Capture → port ≢ Port.Egress → D.at desk.new port ≡ D.at desk.old port }
 {
     if desk.bind(Port::Capture, said.capture).is_err() {
         return Status::File(Port::Capture);
@@ -234,6 +236,8 @@ pub fn walk_call<D: Desk>(alloc: Global, words: &Words, desk: &mut D) -> Status
     // Each answer has its cause, and says what was written.
     ensures runs { (walk : Walk) → IsWalk words.now walk
         → WalkRuns walk D.tells (D.held desk.old) (D.at desk.old) (D.at desk.new) result }
+    // No port changes that the command does not name.
+    ensures only { (walk : Walk) → IsWalk words.now walk → OnlyNamed (walk_names walk) (D.at desk.old) (D.at desk.new) }
     // At Words no port is touched.
     ensures untouched { result ≡ Status.Words → (port : Port) → D.at desk.new port ≡ D.at desk.old port }
     // What the files ask for is the answer, where the desk tells, no call failed and memory was there.

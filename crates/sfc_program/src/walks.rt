@@ -2,7 +2,8 @@ ghost use Rattle.std.specs.Prelude.{◌≡◌, ℕ, ◌≤◌, ◌<◌, List, le
 ghost use Rattle.nsh_headers.specs.Head.{IsHead};
 ghost use Rattle.nsh_headers.specs.Edit.{ttl_in};
 ghost use Rattle.sfc_program.specs.Answers.{IsAnswer};
-ghost use Rattle.sfc_program.specs.Walks.{EndsAt, GoesOnAt, IsOwnHop, Station, WalksTo, first_header, here, pass as frame_passed, static_table};
+ghost use Rattle.sfc_program.specs.TurnSteps.{EndsAt, GoesOnAt, IsOwnHop};
+ghost use Rattle.sfc_program.specs.Walks.{Station, WalksTo, first_header, here, pass as frame_passed, static_table};
 
 use crate::paths::Answer;
 use nsh_headers::{Base, NshHead, ServicePath, encode_head, lower_ttl, set_si};

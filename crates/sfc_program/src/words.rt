@@ -7,6 +7,7 @@ use wire_base::{Bytes, List, OutOfMemory};
 /// The words of a command line, without the program's name.
 #[derive(Debug, Drop)]
 pub struct Words {
+    alloc: Global,
     held: List<Bytes>,
 }
 
@@ -26,16 +27,17 @@ impl Words {
         ensures { result ≡ [] }
     {
         Words {
+            alloc,
             held: List::new(alloc),
         }
     }
 
     /// Appends a word.
-    pub fn push(&mut self, alloc: Global, word: &str) -> Result<(), OutOfMemory>
+    pub fn push(&mut self, word: &str) -> Result<(), OutOfMemory>
         ensures ok { OnOk result (self.new ≡ self.old ++ word.now ∷ []) }
         ensures err { OnErr result (self.new ≡ self.old) }
     {
-        let mut own = Bytes::new(alloc);
+        let mut own = Bytes::new(self.alloc);
         own.push_all(word.as_bytes())?;
         self.held.push(own)?;
         Ok(())

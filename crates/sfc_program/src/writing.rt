@@ -1,4 +1,4 @@
-ghost use Rattle.std.specs.Prelude.{◌≡◌, ◌+◌, ◌<◌, ◌≤◌, true, false, [], ◌++◌, length, IfOk, OnOk, OnErr, IsErrOf};
+ghost use Rattle.std.specs.Prelude.{◌≡◌, ◌+◌, ◌<◌, ◌≤◌, true, false, [], ◌++◌, length, take, IfOk, OnOk, OnErr, IsErrOf};
 ghost use Rattle.sfc_desk.specs.Ports.{is_input};
 ghost use Rattle.sfc_desk.specs.Desks.{Rose, Elsewhere};
 ghost use Rattle.sfc_program.specs.Fronts.{IsFront};
@@ -49,6 +49,26 @@ impl From<Failed> for WriteFault {
     }
 }
 
+/// Writes a front of the bytes, at most a piece, and tells its length, which is not 0 for bytes that are not
+/// empty.
+fn write_piece<D: Desk>(desk: &mut D, port: Port, bytes: &[u8]) -> Result<usize, Failed>
+    requires bound { (D.at desk.old port).bound ≡ true }
+    requires output { is_input port ≡ false }
+    ensures count { IfOk result (λ n. n ≤ length bytes.now) }
+    ensures some { IfOk result (λ n. 0 < length bytes.now → 0 < n) }
+    ensures bytes { D.tells ≡ true → IfOk result (λ n.
+        (D.at desk.new port).written ≡ (D.at desk.old port).written ++ take n bytes.now) }
+    ensures kept { D.tells ≡ true → OnErr result ((D.at desk.new port).written ≡ (D.at desk.old port).written) }
+    ensures cause { OnErr result (Rose (D.at desk.old port) (D.at desk.new port)) }
+    ensures later { (D.at desk.old port).faults ≤ (D.at desk.new port).faults }
+    ensures still_bound { (D.at desk.new port).bound ≡ true }
+    ensures elsewhere { Elsewhere port (D.at desk.old) (D.at desk.new) }
+    ensures names { D.held desk.new ≡ D.held desk.old }
+{
+    let most = bytes.len().min(PIECE);
+    desk.write(port, &bytes[..most])
+}
+
 /// Writes all of the bytes.
 pub(crate) fn write_all<D: Desk>(desk: &mut D, port: Port, bytes: &[u8]) -> Result<(), Failed>
     requires bound { (D.at desk.old port).bound ≡ true }
@@ -66,7 +86,7 @@ pub(crate) fn write_all<D: Desk>(desk: &mut D, port: Port, bytes: &[u8]) -> Resu
 {
     let mut rest = bytes;
     'pieces: while !rest.is_empty() {
-        let count = desk.write(port, rest)?;
+        let count = write_piece(desk, port, rest)?;
         rest = &rest[count..];
     }
     Ok(())

@@ -1,7 +1,8 @@
 -- Each turn goes on from a station of the walk, and the last one ends it.
 use Rattle.std.proofs.Common.{sym, ◌∙◌, subst, arith, refl, [], ◌∷◌, ◌++◌}
 use Rattle.sfc_program.specs.declared.slow_walks.Next.TheVariants.{Done, Served, Handed}
-use Rattle.sfc_program.specs.Walks.{LeadsTo, Station, here}
+use Rattle.sfc_program.specs.TurnSteps.{LeadsTo}
+use Rattle.sfc_program.specs.Walks.{Station, here}
 use Rattle.sfc_program.proofs.WalkEnds.{Walking, walking_falls, walking_first, walking_next}
 use Rattle.sfc_program.proofs.slow_walks.walk_by_stations.Goals as goal
 
