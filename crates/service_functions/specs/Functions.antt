@@ -1,4 +1,4 @@
--- The ranges of what a service function is told, and which functions read or write the context.
+-- The ranges of what a service function is told (RFC 7665, section 4.2), and which functions read or write the context.
 use Rattle.std.specs.Prelude.{◌≡◌, ℕ, ◌==◌, ◌||◌, ◌<◌, ◌≤◌, ◌^◌, Bool, true, false}
 use Rattle.text_words.specs.Hexadecimal.{IsOctets, IsUpToOctets}
 use Rattle.service_functions.specs.declared.functions.Function.{Function}
@@ -21,7 +21,7 @@ IsFunction (Stamp class kind body) = (class < 2 ^ 16) × (kind ≤ 255) × IsUpT
 IsFunction (RequireMeta class kind) = (class < 2 ^ 16) × (kind ≤ 255)
 IsFunction ClearMeta = Unit {0}
 
--- a function that reads or writes the context, and so must see the header
+-- a function that reads or writes the context, and so must see the header (RFC 7665, section 4.6)
 abbrev pub on_metadata : Function → Bool
 on_metadata (Stamp class kind body) = true
 on_metadata (RequireMeta class kind) = true

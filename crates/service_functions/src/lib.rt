@@ -1,4 +1,4 @@
-//! The service functions that an instance may serve (RFC 7665, section 4.4).
+//! The service functions that an instance may serve (RFC 7665, section 4.2).
 //!
 //! Clauses see a `Function` by its variants; `IsFunction` has the ranges of what it is told.
 //!

@@ -1,19 +1,16 @@
 -- What every draft keeps that a text has said.
-use Rattle.std.proofs.Common.{◌≡◌, ℕ, ◌+◌, ◌<◌, ◌≤◌, List, [], ◌∷◌, ◌++◌, length, refl, sym, subst, ap, ◌∙◌, arith, inl, inr, Option, Some, None, length-append}
+use Rattle.std.proofs.Common.{◌≡◌, ℕ, ◌+◌, List, [], ◌∷◌, ◌++◌, length, refl, sym, subst, arith, inl, inr, Option, Some, None, length-append}
 use Rattle.std.specs.Prelude.{◌≢◌}
-use Rattle.std.specs.List.{All, AllPairs}
 use Rattle.std.proofs.lemmas.List.Elements.{All-nil, All-push}
 use Rattle.std.proofs.lemmas.List.Quantifiers.{all_pairs_push}
 use Rattle.text_words.specs.Numbers.{IsWithin}
-use Rattle.text_words.specs.Pieces.{words_of}
 use Rattle.service_functions.specs.Functions.{IsFunction}
 use Rattle.classifier.specs.Rules.{FitsIfAsked}
-use Rattle.sfc_routes.specs.Entries.{Entries}
 use Rattle.sfc_routes.specs.declared.entries.InstanceEntry.{InstanceEntry}
 use Rattle.setup_statements.specs.declared.statements.Bound.{Bound}
 use Rattle.setup_statements.specs.declared.statements.Statement.{Statement}
 use Rattle.setup_statements.specs.declared.statements.Statement.TheVariants.{Local, Target, Peer, Forwarder, Ingress, Instance, Rule}
-use Rattle.setup_statements.specs.Statements.{IsPeer, IsStatement, Tells, Spells}
+use Rattle.setup_statements.specs.Statements.{IsPeer, IsStatement, Tells}
 use Rattle.sfc_config.specs.declared.drafts.Draft.{Draft}
 use Rattle.sfc_config.specs.Parts.{FitsMode}
 use Rattle.sfc_config.specs.Drafts.{nothing, Fits, Adds, IsDraft}

@@ -1,5 +1,5 @@
 -- A text has one reading: one setup, or one refusal, and never both.
-use Rattle.std.proofs.Common.{◌≡◌, ◌⊎◌, ℕ, ◌+◌, ◌<◌, ◌≤◌, Bool, true, false, List, [], ◌∷◌, ◌++◌, length, refl, sym, ◌∙◌, ap, subst, arith, inl, inr, Option, Some, None, Result, Ok, Err}
+use Rattle.std.proofs.Common.{◌≡◌, ◌⊎◌, ℕ, ◌+◌, List, [], ◌∷◌, ◌++◌, length, refl, sym, ◌∙◌, ap, subst, arith, inl, inr, Option, Some, Result, Ok, Err}
 use Rattle.std.specs.Prelude.{◌≢◌}
 use Rattle.std.specs.List.{AllPairs}
 use Rattle.std.proofs.lemmas.Bool.{cases_order}
@@ -13,7 +13,7 @@ use Rattle.sfc_routes.specs.Entries.{Entries, IsAt}
 use Rattle.sfc_routes.specs.declared.entries.ForwarderEntry.{ForwarderEntry}
 use Rattle.setup_statements.specs.declared.statements.Bound.{Bound}
 use Rattle.setup_statements.specs.declared.statements.Statement.{Statement}
-use Rattle.setup_statements.specs.declared.statements.Statement.TheVariants.{Local, Target, Peer, Forwarder, Ingress, Instance, Rule}
+use Rattle.setup_statements.specs.declared.statements.Statement.TheVariants.{Forwarder, Ingress}
 use Rattle.setup_statements.specs.Statements.{Spells, keyword_of}
 use Rattle.setup_statements.proofs.StepLemmas.{head_is, tail_is}
 use Rattle.setup_statements.proofs.StatementLemmas.{one_statement}

@@ -1,5 +1,5 @@
 -- What is there, and what is not.
-use Rattle.std.proofs.Common.{◌≡◌, ℕ, ◌<◌, List, [], ◌∷◌, length, arith}
+use Rattle.std.proofs.Common.{ℕ, List, [], ◌∷◌, arith}
 use Rattle.std.specs.List.{All}
 use Rattle.std.proofs.Common.{Result, Ok, Err, inr}
 use Rattle.text_words.specs.Pieces.{words_of}
@@ -8,7 +8,7 @@ use Rattle.setup_statements.specs.declared.statements.Statement.{Statement}
 use Rattle.setup_statements.specs.Statements.{Spells}
 use Rattle.sfc_config.specs.declared.drafts.Draft.{Draft}
 use Rattle.sfc_config.specs.declared.faults.SetupReason.{SetupReason}
-use Rattle.sfc_config.specs.declared.faults.SetupReason.TheVariants.{Byte, Word, Shape, Count, Name, Twice, Mode, Missing, NoPeer}
+use Rattle.sfc_config.specs.declared.faults.SetupReason.TheVariants.{Byte, Word, Shape}
 use Rattle.sfc_config.specs.declared.faults.LineFault.{LineFault}
 use Rattle.sfc_config.specs.declared.faults.LineFault.TheVariants as line_fault
 use Rattle.sfc_config.specs.Texts.{IsSaid, Clashes, Refuses, Placed, Taken}

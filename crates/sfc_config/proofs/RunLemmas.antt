@@ -13,7 +13,7 @@ use Rattle.sfc_config.specs.Parts.{Parts}
 use Rattle.sfc_config.specs.Drafts.{nothing, IsDraft}
 use Rattle.sfc_config.specs.declared.faults.LineFault.{LineFault}
 use Rattle.sfc_config.specs.declared.faults.LineFault.TheVariants as line_fault
-use Rattle.sfc_config.specs.Texts.{Takes, Taken, fault_at, Runs, Refuses, IsSetup, IsRefused, Finished, Parses, IsWhole, Ends}
+use Rattle.sfc_config.specs.Texts.{Takes, Taken, fault_at, Runs, Refuses, IsRefused, Finished, Parses}
 use Rattle.sfc_config.proofs.KeepingLemmas.{runs_kept, nothing_kept}
 
 -- one more line

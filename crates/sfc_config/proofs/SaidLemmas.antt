@@ -1,5 +1,5 @@
 -- The printed statements of a setup may be said one after another, and what they say is the setup.
-use Rattle.std.proofs.Common.{◌≡◌, ℕ, zero, suc, ◌+◌, ◌<◌, ◌≤◌, Bool, true, false, List, [], ◌∷◌, ◌++◌, length, get_or, refl, sym, ◌∙◌, ap, subst, arith, inl, inr, Option, Some, None, append_assoc, length-append}
+use Rattle.std.proofs.Common.{◌≡◌, ℕ, zero, suc, ◌+◌, ◌<◌, ◌≤◌, true, false, List, [], ◌∷◌, ◌++◌, length, get_or, refl, sym, ◌∙◌, ap, subst, arith, inr, Some, append_assoc, length-append}
 use Rattle.std.specs.Prelude.{◌==◌, ◌≢◌, map}
 use Rattle.std.specs.List.{All, AllPairs, AllByRecursion, onto_first}
 use Rattle.std.proofs.lemmas.Bool.Decides.{nat_tests}
@@ -13,7 +13,7 @@ use Rattle.text_words.specs.Addresses.{IsAddress}
 use Rattle.service_functions.specs.Functions.{IsFunction}
 use Rattle.classifier.specs.declared.rules.Rule.{Rule as OneRule}
 use Rattle.classifier.specs.Rules.{IsRule}
-use Rattle.sfc_routes.specs.Entries.{Entries, IsAt, Serves}
+use Rattle.sfc_routes.specs.Entries.{Serves}
 use Rattle.sfc_routes.specs.declared.entries.ForwarderEntry.{ForwarderEntry}
 use Rattle.sfc_routes.specs.declared.entries.InstanceEntry.{InstanceEntry}
 use Rattle.setup_statements.specs.declared.keywords.Keyword.{Keyword}
@@ -22,12 +22,12 @@ use Rattle.setup_statements.specs.declared.statements.Bound.{Bound}
 use Rattle.setup_statements.specs.declared.statements.Statement.{Statement}
 use Rattle.setup_statements.specs.declared.statements.Statement.TheVariants.{Local, Target, Peer, Forwarder, Ingress, Instance, Rule}
 use Rattle.setup_statements.specs.Keywords.{keyword_text}
-use Rattle.setup_statements.specs.Statements.{IsPeer, IsStatement, keyword_of, line_of, ended_line}
+use Rattle.setup_statements.specs.Statements.{IsPeer, IsStatement, keyword_of, line_of}
 use Rattle.setup_statements.proofs.PrintedLemmas.{IsLineByte, line_bytes, spelled_back, line_front}
 use Rattle.sfc_config.specs.declared.drafts.Draft.{Draft}
 use Rattle.sfc_config.specs.Parts.{Parts, AreParts, FitsMode}
 use Rattle.sfc_config.specs.Drafts.{nothing, Fits, Adds}
-use Rattle.sfc_config.specs.Texts.{is_text_byte, is_skipped, IsSaid, Takes, Runs, Ends, IsSetup}
+use Rattle.sfc_config.specs.Texts.{is_text_byte, is_skipped, IsSaid, Runs, IsSetup}
 use Rattle.sfc_config.specs.Printed.{instances_of, statements_of, printed}
 
 -- statements that are said one after another

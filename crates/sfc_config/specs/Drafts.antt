@@ -1,5 +1,5 @@
 -- What a text has said so far, and what a further statement adds to it.
-use Rattle.std.specs.Prelude.{◌≡◌, ◌≢◌, ℕ, ◌<◌, ◌≤◌, List, [], ◌∷◌, ◌++◌, length, All, Option, Some, None}
+use Rattle.std.specs.Prelude.{◌≡◌, ◌≢◌, ℕ, ◌<◌, ◌≤◌, [], ◌∷◌, ◌++◌, length, All, Some, None}
 use Rattle.wire_base.specs.declared.ids.ForwarderId.{ForwarderId}
 use Rattle.std.specs.List.{AllPairs}
 use Rattle.text_words.specs.Numbers.{IsWithin}

@@ -1,7 +1,6 @@
 -- The printed text of a setup: its statements in one order, each on its line.
-use Rattle.std.specs.Prelude.{◌≡◌, ℕ, ◌<◌, List, [], ◌∷◌, ◌++◌, map, Option, Some}
+use Rattle.std.specs.Prelude.{◌≡◌, ℕ, List, [], ◌∷◌, ◌++◌, map}
 use Rattle.std.specs.List.{flat_map, HoldsAt}
-use Rattle.wire_base.specs.declared.ids.ForwarderId.{ForwarderId}
 use Rattle.sfc_routes.specs.declared.entries.InstanceEntry.{InstanceEntry}
 use Rattle.setup_statements.specs.declared.statements.Bound.{Bound}
 use Rattle.setup_statements.specs.declared.statements.Statement.{Statement}
@@ -24,3 +23,7 @@ statements_of p ingress =
 -- statements, each on its line
 abbrev pub printed : List Statement → List ℕ
 printed ss = flat_map ended_line ss
+
+-- the printed text of a setup, where the ingress is told by its forwarder's name
+abbrev pub IsPrinted : Parts → List ℕ → Type 0
+IsPrinted p text = HoldsAt (λ ingress. text ≡ printed (statements_of p ingress.name)) p.roster.forwarders p.ingress.0

@@ -1,5 +1,5 @@
 -- The grammar of a setup text: line by line over what was said so far.
-use Rattle.std.specs.Prelude.{◌≡◌, ◌≢◌, ℕ, ◌==◌, ◌&&◌, ◌+◌, ◌<◌, ◌⊎◌, nat_le, Bool, true, false, List, [], ◌∷◌, ◌++◌, length, Option, Some, None, Result, Ok, Err}
+use Rattle.std.specs.Prelude.{◌≡◌, ◌≢◌, ℕ, ◌==◌, ◌&&◌, ◌+◌, ◌<◌, ◌⊎◌, nat_le, Bool, true, false, List, [], ◌∷◌, ◌++◌, length, Some, None, Result, Ok, Err}
 use Rattle.std.specs.List.{AllPass}
 use Rattle.text_words.specs.Lines.{lines_of}
 use Rattle.text_words.specs.Pieces.{words_of}
@@ -9,7 +9,7 @@ use Rattle.setup_statements.specs.Keywords.{keyword_text}
 use Rattle.setup_statements.specs.Statements.{Spells}
 use Rattle.sfc_config.specs.declared.drafts.Draft.{Draft}
 use Rattle.sfc_config.specs.declared.faults.SetupReason.{SetupReason}
-use Rattle.sfc_config.specs.declared.faults.SetupReason.TheVariants.{Byte, Word, Shape, Count, Name, Twice, Mode, Missing, NoPeer}
+use Rattle.sfc_config.specs.declared.faults.SetupReason.TheVariants.{Byte, Word, Shape, Count, Name, Twice, Mode, Missing}
 use Rattle.sfc_config.specs.declared.faults.SetupFault.{SetupFault}
 use Rattle.sfc_config.specs.declared.faults.SetupFault.TheVariants.{Line, OutOfMemory}
 use Rattle.sfc_config.specs.declared.faults.LineFault.{LineFault}

@@ -1,5 +1,4 @@
 use thiserror::Error;
-use wire_base::OutOfMemory;
 
 /// Why a line of a setup is refused: the first reason that holds, in this order.
 #[derive(Clone, Copy, Debug, PartialEq, Eq)]
@@ -32,12 +31,6 @@ pub enum SetupFault {
     Line(u64, SetupReason),
     #[error("no memory")]
     OutOfMemory,
-}
-
-impl From<OutOfMemory> for SetupFault {
-    fn from(_fault: OutOfMemory) -> SetupFault {
-        SetupFault::OutOfMemory
-    }
 }
 
 /// Why a line is not taken.

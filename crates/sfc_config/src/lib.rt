@@ -13,7 +13,7 @@
 //! What the layer above uses:
 //!
 //! - `parse_setup` gives the setup that a text spells, or its first refusal (`Parses`).
-//! - `print_setup` gives a text that spells the setup.
+//! - `print_setup` gives a text that spells the setup, its statements in one order (`IsPrinted`).
 //! - A text has one reading (`a_text_has_one_reading`), so parsing a printed setup gives it again (`parsing_is_exact`).
 //!
 //! A setup keeps `AreParts`. docs/SETUP.md has the text for operators. It does no IO, and a name is found by a search

@@ -1,6 +1,6 @@
 //! A statement after those before it: it is refused for its first reason, or added to what was said.
 
-ghost use Rattle.std.specs.Prelude.{◌≡◌, ◌≢◌, All, MatchBool};
+ghost use Rattle.std.specs.Prelude.{◌≢◌, All, MatchBool};
 ghost use Rattle.classifier.specs.Rules.{IsRule};
 ghost use Rattle.sfc_routes.specs.Entries.{Serves};
 ghost use Rattle.setup_statements.specs.declared.statements.Statement.TheVariants as statement;

@@ -1,8 +1,8 @@
 //! The text of a setup.
 
-ghost use Rattle.std.specs.Prelude.{◌≡◌, ◌++◌, ◌∷◌, [], map, length, OnOk, IfOk};
+ghost use Rattle.std.specs.Prelude.{◌≡◌, ◌++◌, map, length, OnOk, IfOk};
 ghost use Rattle.setup_statements.specs.declared.statements.Statement.TheVariants as statement;
-ghost use Rattle.sfc_config.specs.Printed.{instances_of, printed};
+ghost use Rattle.sfc_config.specs.Printed.{instances_of, printed, IsPrinted};
 ghost use Rattle.sfc_config.specs.Texts.{IsSetup};
 
 use crate::setups::Setup;
@@ -80,7 +80,8 @@ fn print_rules(out: &mut Bytes, rules: &RuleList) -> Result<(), OutOfMemory>
 ///
 /// The text spells the setup, so parsing it gives the setup again.
 pub fn print_setup(alloc: Global, setup: &Setup) -> Result<Bytes, OutOfMemory>
-    ensures { IfOk result (λ text. IsSetup text setup.now) }
+    ensures order { IfOk result (λ text. IsPrinted setup.now text) }
+    ensures spelled { IfOk result (λ text. IsSetup text setup.now) }
 {
     let mut out = Bytes::new(alloc);
     print_local(&mut out, &setup.local)?;

@@ -1,5 +1,5 @@
 -- Each line is one more that is taken, or the first that is refused.
-use Rattle.std.proofs.Common.{◌≡◌, ◌<◌, ◌+◌, ◌^◌, length, arith, ap, ◌∙◌}
+use Rattle.std.proofs.Common.{arith, ◌∙◌}
 use Rattle.sfc_config.proofs.RunLemmas.{line_within, so_far_more, to_come_less, parses_not, all_run, so_far_kept, parses_as_finished}
 use Rattle.sfc_config.proofs.parsing.parse_setup.Goals as goal
 

@@ -1,5 +1,5 @@
 -- The lines so far are taken, and the others are to come.
-use Rattle.std.proofs.Common.{ℕ, ◌≡◌, take, drop, length}
+use Rattle.std.proofs.Common.{◌≡◌, take, drop, length}
 use Rattle.text_words.specs.Lines.{lines_of}
 use Rattle.sfc_config.specs.Drafts.{nothing}
 use Rattle.sfc_config.specs.Texts.{Runs}

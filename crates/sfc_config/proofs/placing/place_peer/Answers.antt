@@ -1,5 +1,5 @@
 -- The peers that were searched are those of the draft.
-use Rattle.std.proofs.Common.{◌≡◌, ◌<◌, ℕ, List, length, arith, ap, subst, sym}
+use Rattle.std.proofs.Common.{ℕ, List, length, arith, ap, subst, sym}
 use Rattle.std.specs.Prelude.{◌≢◌}
 use Rattle.std.specs.List.{All}
 use Rattle.sfc_config.proofs.placing.place_peer.Goals as goal

@@ -1,5 +1,5 @@
 -- The forwarder at the place is written, and those behind it are to come.
-use Rattle.std.proofs.Common.{◌≡◌, ◌<◌, length, arith}
+use Rattle.std.proofs.Common.{arith}
 use Rattle.sfc_config.proofs.PrintLemmas.{next_forwarder}
 use Rattle.sfc_config.proofs.printing.print_forwarders.Goals as goal
 

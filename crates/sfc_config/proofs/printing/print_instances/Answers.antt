@@ -1,5 +1,5 @@
 -- The instance at the place is written, and those behind it are to come.
-use Rattle.std.proofs.Common.{◌≡◌, ◌<◌, ◌≤◌, length, get_or, arith, ◌∙◌}
+use Rattle.std.proofs.Common.{◌<◌, length, arith, ◌∙◌}
 use Rattle.std.proofs.lemmas.List.{get_or_default}
 use Rattle.sfc_config.proofs.PrintLemmas.{next_instance, all_instances}
 use Rattle.sfc_config.proofs.printing.print_instances.Goals as goal

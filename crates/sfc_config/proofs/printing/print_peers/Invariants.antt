@@ -1,5 +1,5 @@
 -- what is written and what is to come are what is to be written
-use Rattle.std.proofs.Common.{ℕ, ◌≡◌, ◌++◌, drop}
+use Rattle.std.proofs.Common.{◌≡◌, ◌++◌, drop}
 use Rattle.std.specs.Prelude.{map}
 use Rattle.setup_statements.specs.declared.statements.Statement.TheVariants as statement
 use Rattle.sfc_config.specs.Printed.{printed}

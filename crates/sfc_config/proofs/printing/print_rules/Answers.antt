@@ -1,5 +1,5 @@
 -- The rule at the place is written, and those behind it are to come.
-use Rattle.std.proofs.Common.{◌≡◌, ◌<◌, length, arith}
+use Rattle.std.proofs.Common.{arith}
 use Rattle.setup_statements.specs.declared.statements.Statement.TheVariants.{Rule}
 use Rattle.sfc_config.proofs.PrintLemmas.{next_group}
 use Rattle.sfc_config.proofs.printing.print_rules.Goals as goal
