@@ -1,5 +1,5 @@
 -- What is written spells the header, and a header has one spelling.
-use Rattle.std.proofs.Common.{◌≡◌, ℕ, ◌+◌, ◌-◌, ◌*◌, ◌<◌, ◌≤◌, List, [], ◌∷◌, ◌++◌, length, drop, take, refl, sym, ap, subst, ◌∙◌, arith, inl, inr, ◌⊎◌}
+use Rattle.std.proofs.Common.{◌≡◌, ℕ, ◌+◌, ◌-◌, ◌*◌, ◌<◌, ◌≤◌, List, ◌++◌, length, drop, take, refl, sym, ap, subst, ◌∙◌, arith, inl, inr}
 use Rattle.std.proofs.lemmas.List.{take-append-drop, length-append, length-take-le, take_at, drop_at, drop-drop}
 use Rattle.std.proofs.lemmas.List.Elements.{All-take}
 use Rattle.wire_base.specs.Numbers.{AreBytes}
@@ -8,8 +8,8 @@ use Rattle.nsh_headers.specs.Head.{IsHead, IsSized}
 use Rattle.nsh_headers.proofs.HeadLemmas.{same_front}
 use Rattle.nsh_metadata.specs.declared.contexts.Context.{Context}
 use Rattle.nsh_metadata.specs.declared.contexts.Context.TheVariants.{Fixed16, Items}
-use Rattle.nsh_metadata.specs.Header.{Header, IsContext, IsNsh, BeginsWith, HasSpelling, context_bytes, md_of}
-use Rattle.nsh_metadata.proofs.HeaderLemmas.{IsHead-take, IsHead-from_take, drop_take, begins_size, begins_long}
+use Rattle.nsh_metadata.specs.Header.{Header, IsContext, BeginsWith, HasSpelling, context_bytes, md_of}
+use Rattle.nsh_metadata.proofs.HeaderLemmas.{IsHead-take, IsHead-from_take, drop_take}
 
 context_is : (c : List ℕ) (md : ℕ) (x : Context) → IsContext c md x → c ≡ context_bytes x
 context_is c md (Fixed16 bytes) h = h.2

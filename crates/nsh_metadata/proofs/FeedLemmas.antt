@@ -1,13 +1,12 @@
 -- A feed and the bytes that it took.
-use Rattle.std.proofs.Common.{◌≡◌, ℕ, ◌+◌, ◌-◌, ◌*◌, ◌<◌, ◌≤◌, List, [], ◌∷◌, ◌++◌, length, drop, take, get_or, Some, None, Option, min, refl, sym, ap, subst, ◌∙◌, append_assoc, arith, inl, inr, ◌⊎◌}
-use Rattle.std.proofs.lemmas.List.{take-append-drop, length-append, length-take, length-take-le, length-drop, take-append-le, drop-append-le, get_or_append_left, take_all, drop_all, take_at, take-take, append-nil}
+use Rattle.std.proofs.Common.{◌≡◌, ℕ, ◌+◌, ◌-◌, ◌≤◌, List, [], ◌∷◌, ◌++◌, length, drop, take, Some, None, Option, min, refl, sym, ap, subst, ◌∙◌, append_assoc, arith, inl, inr, ◌⊎◌}
+use Rattle.std.proofs.lemmas.List.{take-append-drop, length-append, length-take, length-take-le, length-drop, take-append-le, drop-append-le, get_or_append_left, drop_all, take_at, take-take, append-nil}
 use Rattle.std.proofs.lemmas.Slice.{take-put_mid}
 use Rattle.std.proofs.lemmas.Bool.{cases_lt}
 use borrow.Rule.Slice.PartMut.{put_mid}
 use Rattle.nsh_headers.specs.declared.faults.NshFault.{NshFault}
 use Rattle.nsh_headers.specs.declared.faults.NshFault.TheVariants.{Short, Version, MdType, Length, Context}
-use Rattle.nsh_headers.specs.Refusal.{HeadBreaks, IsWrongLength, version_in, md_in, words_in}
-use Rattle.nsh_metadata.specs.Item.{items_bytes, item_size}
+use Rattle.nsh_metadata.specs.Item.{items_bytes}
 use Rattle.nsh_metadata.specs.Header.{Header, IsNsh, BeginsWith}
 use Rattle.nsh_metadata.specs.Refusal.{PassesEnd, Breaks, Held, Refused}
 use Rattle.nsh_metadata.specs.Kept.{Kept, waiting, stopped}

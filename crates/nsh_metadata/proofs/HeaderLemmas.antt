@@ -1,18 +1,18 @@
 -- Headers and refusals of the same bytes.
-use Rattle.std.proofs.Common.{◌≡◌, ℕ, ◌+◌, ◌-◌, ◌*◌, ◌<◌, ◌≤◌, List, [], ◌∷◌, ◌++◌, length, drop, take, get_or, refl, sym, ap, subst, ◌∙◌, append_assoc, arith, inl, inr, ◌⊎◌}
-use Rattle.std.proofs.lemmas.List.{take-append-drop, length-append, length-take, length-take-le, length-drop, take-take, get_or-take, drop-take, take_all, append-nil}
+use Rattle.std.proofs.Common.{◌≡◌, ℕ, ◌+◌, ◌-◌, ◌*◌, ◌≤◌, List, [], ◌++◌, length, drop, take, refl, sym, ap, subst, ◌∙◌, arith, inl, inr}
+use Rattle.std.proofs.lemmas.List.{take-append-drop, length-take, length-take-le, length-drop, take-take, get_or-take, drop-take}
 use Rattle.wire_base.specs.Numbers.{big_endian}
 use Rattle.nsh_headers.specs.declared.heads.NshHead.{NshHead}
 use Rattle.nsh_headers.specs.declared.faults.NshFault.{NshFault}
 use Rattle.nsh_headers.specs.declared.faults.NshFault.TheVariants.{Short, Version, MdType, Length, Context}
 use Rattle.nsh_headers.specs.Head.{IsHead, IsSized}
-use Rattle.nsh_headers.specs.Refusal.{HeadBreaks, IsWrongLength, version_in, md_in, words_in}
+use Rattle.nsh_headers.specs.Refusal.{HeadBreaks, version_in, md_in, words_in}
 use Rattle.nsh_metadata.specs.declared.contexts.Context.{Context as Context'}
 use Rattle.nsh_metadata.specs.declared.contexts.Context.TheVariants.{Fixed16, Items}
-use Rattle.nsh_metadata.specs.Item.{Item, AreItems, items_bytes, item_size, items_in, HoldsItems}
-use Rattle.nsh_metadata.specs.Header.{Header, IsContext, IsNsh, BeginsWith}
-use Rattle.nsh_metadata.specs.Refusal.{PassesEnd, Breaks, Held, Refused}
-use Rattle.nsh_metadata.proofs.SplitLemmas.{Ahead, Same, Split, Split-from_holds, compare, compare_splits}
+use Rattle.nsh_metadata.specs.Item.{Item, items_bytes}
+use Rattle.nsh_metadata.specs.Header.{Header, IsContext, BeginsWith}
+use Rattle.nsh_metadata.specs.Refusal.{PassesEnd, Breaks, Refused}
+use Rattle.nsh_metadata.proofs.SplitLemmas.{Split, compare, compare_splits}
 
 -- ---- heads
 

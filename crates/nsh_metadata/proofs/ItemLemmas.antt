@@ -1,13 +1,12 @@
 -- Items read from their bytes are the items that were spelled, and the other way round.
-use Rattle.std.proofs.Common.{◌≡◌, ℕ, zero, suc, ◌+◌, ◌-◌, ◌*◌, ◌/◌, ◌%◌, ◌^◌, ◌<◌, ◌≤◌, Bool, true, false, leb, List, [], ◌∷◌, ◌++◌, length, get_or, take, drop, refl, sym, ap, subst, ◌∙◌, append_assoc, arith, inl, inr, ◌⊎◌}
-use Rattle.std.proofs.lemmas.List.{take_at, drop_at, take-append-drop, length-append, length-take, length-drop, get_or-drop, append_cancel_left, append-nil, drop-drop, take_all, length-take-le, length-replicate, drop_more}
+use Rattle.std.proofs.Common.{◌≡◌, ℕ, zero, suc, ◌+◌, ◌-◌, ◌*◌, ◌%◌, ◌^◌, ◌<◌, ◌≤◌, Bool, true, false, leb, List, [], ◌∷◌, ◌++◌, length, get_or, take, drop, refl, sym, ap, subst, ◌∙◌, append_assoc, arith, inl, inr}
+use Rattle.std.proofs.lemmas.List.{take_at, drop_at, take-append-drop, length-append, length-take, length-drop, append-nil, drop-drop, take_all, length-take-le, length-replicate, drop_more}
 use Rattle.std.specs.Prelude.{slice_get, Some}
 use borrow.Rule.Slice.PartMut.{put_mid, post_of}
 use Rattle.std.proofs.lemmas.Option.{slice_get-get_or}
 use Rattle.std.proofs.lemmas.List.Concat.{flat_map-append}
 use Rattle.std.proofs.lemmas.Bool.{cases_lt, lt-leb, le-leb}
 use Rattle.std.proofs.lemmas.List.Elements.{All-get_or, All-drop}
-use Rattle.std.specs.List.{flat_map, AllByRecursion}
 use Rattle.wire_base.specs.Numbers.{AreBytes}
 use Rattle.nsh_headers.specs.Head.{bit}
 use Rattle.nsh_metadata.specs.Item.{Item, IsItem, AreItems, pad_len, item_len, item_bytes, items_bytes, item_size, item_at, items_in, new_item, HoldsItems}

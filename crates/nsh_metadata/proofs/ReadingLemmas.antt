@@ -1,19 +1,19 @@
 -- What a walk over the items says of the whole header.
-use Rattle.std.proofs.Common.{◌≡◌, ℕ, ◌+◌, ◌-◌, ◌*◌, ◌<◌, ◌≤◌, List, [], ◌∷◌, ◌++◌, length, drop, take, Result, Ok, Err, refl, sym, ap, subst, ◌∙◌, arith, inl, inr, ◌⊎◌}
-use Rattle.std.proofs.lemmas.List.{length-take, length-take-le, length-drop, length-append}
+use Rattle.std.proofs.Common.{◌≡◌, ℕ, ◌+◌, ◌-◌, ◌*◌, ◌<◌, ◌≤◌, List, length, drop, take, Result, Ok, Err, refl, sym, ap, subst, ◌∙◌, arith, inl, inr}
+use Rattle.std.proofs.lemmas.List.{length-take-le, length-drop, length-append}
 use Rattle.nsh_headers.specs.declared.heads.NshHead.{NshHead}
 use Rattle.nsh_headers.specs.declared.faults.NshFault.{NshFault}
 use Rattle.nsh_headers.specs.declared.faults.NshFault.TheVariants.{Short, Version, MdType, Length, Context}
 use Rattle.nsh_headers.specs.Head.{IsHead, IsSized}
-use Rattle.nsh_headers.specs.Refusal.{HeadBreaks, HeadRefused, IsCut, words_in}
-use Rattle.nsh_metadata.specs.declared.contexts.Context.TheVariants.{Fixed16, Items}
+use Rattle.nsh_headers.specs.Refusal.{HeadBreaks, HeadRefused, IsCut}
+use Rattle.nsh_metadata.specs.declared.contexts.Context.TheVariants.{Items}
 use Rattle.nsh_metadata.specs.Item.{Item, AreItems, items_bytes, item_size, items_in, HoldsItems}
-use Rattle.nsh_metadata.specs.Header.{Header, IsNsh, BeginsWith, HasSpelling}
+use Rattle.nsh_metadata.specs.Header.{Header, BeginsWith, HasSpelling}
 use Rattle.nsh_metadata.specs.Refusal.{PassesEnd, Breaks, Held, Refused}
 use Rattle.nsh_metadata.specs.Reading.{Refuses, Reads}
-use Rattle.nsh_metadata.specs.Survey.{StandsAt, IsCutAt, IsPastAt}
+use Rattle.nsh_metadata.specs.Survey.{IsCutAt, IsPastAt}
 use Rattle.nsh_metadata.proofs.ItemLemmas.{HoldsItems-take, items_words}
-use Rattle.nsh_metadata.proofs.SplitLemmas.{Split, Split-from_holds, compare}
+use Rattle.nsh_metadata.proofs.SplitLemmas.{Split-from_holds, compare}
 use Rattle.nsh_metadata.proofs.HeaderLemmas.{IsHead-take, same_head, shows, sized_unbroken, drop_take, begins_size, begins_head, begins_long, begins_items, begins_once, begins_unrefused, refused_once, Split-from_passes}
 
 -- ---- a head that is refused

@@ -1,8 +1,8 @@
 -- Two splits of the same bytes into whole items and a rest: they agree, or one is ahead of the other by an item.
-use Rattle.std.proofs.Common.{◌≡◌, ℕ, ◌+◌, ◌<◌, ◌≤◌, List, [], ◌∷◌, ◌++◌, length, drop, take, refl, sym, ap, subst, ◌∙◌, append_assoc, arith, inl, inr, ◌⊎◌}
+use Rattle.std.proofs.Common.{◌≡◌, ℕ, ◌+◌, ◌≤◌, List, [], ◌∷◌, ◌++◌, length, drop, refl, sym, ap, subst, ◌∙◌, append_assoc, arith, inl, inr, ◌⊎◌}
 use Rattle.std.proofs.lemmas.List.{take-append-drop, length-append, length-take-le}
-use Rattle.nsh_metadata.specs.Item.{Item, IsItem, AreItems, item_len, item_bytes, items_bytes, item_size, items_in, HoldsItems}
-use Rattle.nsh_metadata.proofs.ItemLemmas.{front_item, length-item_bytes, item_size-spelled, items_bytes-append, AreItems-append}
+use Rattle.nsh_metadata.specs.Item.{Item, IsItem, AreItems, item_bytes, items_bytes, item_size, items_in, HoldsItems}
+use Rattle.nsh_metadata.proofs.ItemLemmas.{front_item, length-item_bytes, item_size-spelled}
 
 -- Behind the first split's items a whole item stands, which is one of the second's.
 pub record Ahead (xs ys : List Item) (a : List ℕ) : Type 0 where

@@ -1,5 +1,5 @@
 -- A header that comes in pieces: what a feed keeps, what it answers, and what it stands for.
-use Rattle.std.specs.Prelude.{◌≡◌, ℕ, ◌+◌, ◌≤◌, ◌⊎◌, Option, Some, None, List, [], ◌∷◌, ◌++◌, length, take, drop}
+use Rattle.std.specs.Prelude.{◌≡◌, ℕ, ◌+◌, ◌≤◌, ◌⊎◌, List, [], ◌∷◌, ◌++◌, length, take, drop}
 use Rattle.nsh_headers.specs.declared.faults.NshFault.{NshFault}
 use Rattle.nsh_metadata.specs.Header.{Header, BeginsWith}
 use Rattle.nsh_metadata.specs.Kept.{Kept, waiting, stopped}

@@ -1,7 +1,7 @@
 -- Why bytes are no header, as soon as they show it (RFC 8300, sections 2.2 and 2.5.1). The order of the refusals is this project's own.
 use Rattle.std.specs.Prelude.{◌≡◌, ℕ, ◌+◌, ◌*◌, ◌<◌, ◌≤◌, ◌⊎◌, List, ◌++◌, length, drop}
 use Rattle.nsh_headers.specs.declared.faults.NshFault.{NshFault}
-use Rattle.nsh_headers.specs.declared.faults.NshFault.TheVariants.{Short, Version, MdType, Length, Context}
+use Rattle.nsh_headers.specs.declared.faults.NshFault.TheVariants.{Short, Context}
 use Rattle.nsh_headers.specs.Refusal.{HeadBreaks, version_in, md_in, words_in}
 use Rattle.nsh_metadata.specs.Item.{Item, AreItems, items_bytes, item_size}
 use Rattle.nsh_metadata.specs.Header.{Header, BeginsWith}

@@ -1,7 +1,6 @@
-use Rattle.std.proofs.Common.{◌≡◌, ℕ, ◌-◌, ◌*◌, ◌≤◌, List, length, drop, take, ap, subst, ◌∙◌, arith}
+use Rattle.std.proofs.Common.{ℕ, ◌-◌, ◌*◌, ◌≤◌, List, length, drop, take, ap, subst, ◌∙◌}
 use Rattle.nsh_metadata.specs.Item.{HoldsItems}
 use Rattle.nsh_metadata.specs.Survey.{IsCutAt, IsPastAt}
-use Rattle.nsh_metadata.specs.Header.{BeginsWith}
 use Rattle.nsh_metadata.proofs.ItemLemmas.{HoldsItems-take}
 use Rattle.nsh_metadata.proofs.ReadingLemmas.{HasWhole, has_whole, whole_spelling, whole_begins, items_held, items_past}
 use Rattle.nsh_metadata.proofs.decoding.with_items.Goals as goal

@@ -1,5 +1,4 @@
-use Rattle.std.proofs.Common.{◌≡◌, ◌+◌, ap, subst, sym, ◌∙◌, length, drop}
-use Rattle.nsh_metadata.specs.Header.{Header, BeginsWith}
+use Rattle.std.proofs.Common.{◌≡◌, ap, sym, ◌∙◌, length, drop}
 use Rattle.nsh_metadata.proofs.EncodingLemmas.{encoded, encoded_behind}
 use Rattle.nsh_metadata.proofs.encoding.encode_nsh.Goals as goal
 

@@ -1,8 +1,8 @@
-use Rattle.std.proofs.Common.{◌≡◌, ℕ, ◌+◌, ◌<◌, ◌≤◌, List, length, drop, ap, ◌∙◌, arith}
+use Rattle.std.proofs.Common.{◌≡◌, ℕ, ◌<◌, ◌≤◌, List, length, drop, ap, ◌∙◌, arith}
 use Rattle.std.proofs.lemmas.List.{length-drop}
 use Rattle.std.proofs.lemmas.List.Elements.{All-from_get_or}
 use Rattle.wire_base.specs.Numbers.{AreBytes}
-use Rattle.nsh_metadata.specs.Item.{HoldsItems, item_size}
+use Rattle.nsh_metadata.specs.Item.{item_size}
 use Rattle.nsh_metadata.proofs.ItemLemmas.{HoldsItems-more}
 use Rattle.nsh_metadata.proofs.surveys.walk_items.Goals as goal
 

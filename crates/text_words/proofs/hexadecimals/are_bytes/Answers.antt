@@ -1,5 +1,5 @@
 -- The elements of a slice of bytes are in range, whatever stands for what is past its end.
-use Rattle.std.proofs.Common.{◌≡◌, ◌<◌, ◌^◌, ℕ, get_or, subst, sym, arith}
+use Rattle.std.proofs.Common.{arith}
 use Rattle.std.proofs.lemmas.List.{get_or_default}
 use Rattle.text_words.proofs.hexadecimals.are_bytes.Goals as goal
 

@@ -1,4 +1,4 @@
-use Rattle.std.proofs.Common.{◌≡◌, ap, sym, ◌∙◌, Some, None}
+use Rattle.std.proofs.Common.{ap, sym, ◌∙◌}
 use Rattle.nsh_metadata.specs.Kept.{Kept}
 use Rattle.nsh_metadata.proofs.FeedLemmas.{answers_once, next_piece, stopped_stands}
 use Rattle.nsh_metadata.proofs.feeds.NshFeed.push.Goals as goal

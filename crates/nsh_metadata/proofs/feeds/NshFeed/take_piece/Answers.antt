@@ -1,7 +1,6 @@
-use Rattle.std.proofs.Common.{◌≡◌, ℕ, ◌+◌, ◌-◌, ◌≤◌, List, ◌++◌, length, take, ap, subst, sym, ◌∙◌, refl, arith, inl, inr, ◌⊎◌, Err}
+use Rattle.std.proofs.Common.{◌≡◌, ℕ, ◌+◌, ◌-◌, ◌++◌, length, ap, subst, sym, ◌∙◌, refl, arith, inl, inr, ◌⊎◌, Err}
 use Rattle.std.proofs.lemmas.List.{length-take-le}
 use Rattle.nsh_headers.specs.declared.faults.NshFault.{NshFault}
-use Rattle.nsh_headers.specs.declared.faults.NshFault.TheVariants.{Short}
 use Rattle.nsh_metadata.specs.Kept.{Kept}
 use Rattle.nsh_metadata.specs.Header.{BeginsWith}
 use Rattle.nsh_metadata.specs.Refusal.{Refused}

@@ -1,6 +1,6 @@
-use Rattle.std.proofs.Common.{◌≡◌, ℕ, ◌+◌, ◌<◌, List, length, drop, sym, ap, subst, ◌∙◌, arith, Some, slice_get}
-use Rattle.nsh_metadata.specs.Item.{IsItem, Item, AreItems, items_bytes, item_size}
-use Rattle.nsh_metadata.proofs.ItemLemmas.{ItemHere, item_here, size_here}
+use Rattle.std.proofs.Common.{◌≡◌, ℕ, ◌+◌, drop, sym, ap, subst, ◌∙◌, arith, Some, slice_get}
+use Rattle.nsh_metadata.specs.Item.{IsItem, items_bytes}
+use Rattle.nsh_metadata.proofs.ItemLemmas.{item_here, size_here}
 use Rattle.nsh_metadata.proofs.items.ItemList.item.Goals as goal
 
 pub size_at-requires : goal.size_at-requires

@@ -1,4 +1,4 @@
-use Rattle.std.proofs.Common.{◌≡◌, ◌-◌, ◌+◌, ap, ◌∙◌, arith, refl, List, ◌++◌, ◌∷◌, [], length, take}
+use Rattle.std.proofs.Common.{ap, ◌∙◌, arith, List, ◌++◌, ◌∷◌, [], length}
 use Rattle.std.proofs.lemmas.List.{length-take}
 use Rattle.nsh_metadata.specs.Item.{Item, new_item, items_in}
 use Rattle.nsh_metadata.proofs.ItemLemmas.{HoldsItems-push, IsItem-new_item, count-items_bytes, length-items_in}
