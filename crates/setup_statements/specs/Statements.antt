@@ -24,7 +24,7 @@ use Rattle.setup_statements.specs.RuleText.{rule_words, star_or, protocol_text, 
 abbrev pub octets_of : ℕ → List ℕ
 octets_of n = n / 16777216 ∷ n / 65536 % 256 ∷ n / 256 % 256 ∷ n % 256 ∷ []
 
--- AS number, identifier and hold time
+-- AS number, identifier and hold time (RFC 4271, section 4.2)
 abbrev pub local_words : LocalSide → List (List ℕ)
 local_words l = decimal l.asn ∷ dotted (octets_of l.id) ∷ decimal l.hold ∷ []
 
@@ -42,12 +42,12 @@ IsForwarder f = IsName f.name × IsAddress f.address
 abbrev pub forwarder_words : ForwarderEntry → List (List ℕ)
 forwarder_words f = f.name ∷ address_text f.address ∷ []
 
--- whether an instance sees the header
+-- whether an instance sees the header, or stands behind a proxy (RFC 7665, section 4.6)
 abbrev pub mode_text : Bool → List ℕ
 mode_text true = codes "proxy"
 mode_text false = codes "aware"
 
--- an instance's name, RD and type, and what serves there
+-- an instance's name, RD (RFC 4364, section 4.2) and type (RFC 9015, section 3.1), and what serves there
 abbrev pub IsInstance : InstanceEntry × Bound → Type 0
 IsInstance i = IsName i.0.name × IsOctets 8 i.0.rd × IsWithin 32 65535 i.0.kind × IsFunction i.1.function
 
@@ -74,7 +74,7 @@ words_behind (Ingress name) = name ∷ []
 words_behind (Instance i bound) = instance_words (i, bound)
 words_behind (Rule r) = rule_words (star_or protocol_text r.protocol) r
 
--- a statement whose parts have their forms and ranges
+-- a statement whose parts have their forms and ranges; a target is any 8 bytes (RFC 4360, section 4)
 abbrev pub IsStatement : Statement → Type 0
 IsStatement (Local l) = IsLocal l
 IsStatement (Target t) = IsOctets 8 t

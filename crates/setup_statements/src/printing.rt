@@ -1,6 +1,6 @@
 //! The lines of statements, as they are printed.
 
-ghost use Rattle.std.specs.Prelude.{◌≡◌, ◌++◌, ◌∷◌, [], OnOk, codes};
+ghost use Rattle.std.specs.Prelude.{◌≡◌, ◌++◌, ◌∷◌, OnOk, codes};
 ghost use Rattle.std.specs.Fmt.{decimal};
 ghost use Rattle.text_words.specs.Hexadecimal.{hexadecimal, four_digits, octets_or_dash};
 ghost use Rattle.text_words.specs.Addresses.{dotted, address_text};

@@ -1,7 +1,6 @@
 //! A statement from the words of its line.
 
-ghost use Rattle.std.specs.Prelude.{◌≡◌, ◌<◌, ◌^◌, ℕ, List, [], ◌∷◌, MatchOption};
-ghost use Rattle.std.specs.Fmt.{decimal};
+ghost use Rattle.std.specs.Prelude.{◌≡◌, ◌<◌, ◌^◌, [], ◌∷◌, MatchOption};
 ghost use Rattle.text_words.specs.Reading.{Reads, ReadsFirst};
 ghost use Rattle.text_words.specs.Names.{IsName};
 ghost use Rattle.text_words.specs.Hexadecimal.{IsOctets, hexadecimal};

@@ -19,7 +19,7 @@ pub struct Bound {
 pub enum Statement {
     /// The local side of all sessions.
     Local(Local),
-    /// A route target of which routes are taken.
+    /// A route target (RFC 4360, section 4) of which routes are taken.
     Target(Fixed<8>),
     /// A peer's number, 1 to 65,535, and its AS, 1 to 4,294,967,295.
     Peer((u16, u32)),

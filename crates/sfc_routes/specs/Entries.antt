@@ -1,4 +1,5 @@
--- What a roster holds of forwarders and instances (RFC 7665, section 4), and what it keeps of them.
+-- What a roster holds of forwarders and instances (RFC 7665, section 4) and of route targets (RFC 4360, section 4), and what
+-- it keeps of them.
 use Rattle.std.specs.Prelude.{◌≡◌, ◌≢◌, ℕ, ◌<◌, ◌≤◌, List, [], ◌∷◌, ◌++◌, ◌⊎◌, length, All}
 use Rattle.std.specs.List.{AllPairs, HoldsAt, Contains}
 use Rattle.wire_base.specs.declared.next_hops.NextHop.{NextHop}
@@ -18,7 +19,7 @@ pub record Entries : Type 0 where
 abbrev pub IsAt : {X : Type 0} → (X → Type 0) → List X → ℕ → Type 0
 IsAt P xs i = (i < length xs) × HoldsAt P xs i
 
--- an instance with this route distinguisher and type
+-- an instance with this route distinguisher (RFC 4364, section 4.2) and type (RFC 9015, section 3.1)
 abbrev pub Serves : List ℕ → ℕ → InstanceEntry → Type 0
 Serves rd kind i = (i.rd ≡ rd) × (i.kind ≡ kind)
 
@@ -48,6 +49,6 @@ with_instance e n r k = record e { instances = e.instances ++ (record { name = n
 abbrev pub with_target : Entries → List ℕ → Entries
 with_target e t = record e { targets = e.targets ++ t ∷ [] }
 
--- no target is asked for, or one of these is among those asked for
+-- no target is asked for, or one of these is among those asked for (RFC 4364, section 4.3.1)
 abbrev pub Accepts : Entries → List (List ℕ) → Type 0
 Accepts e targets = (length e.targets ≡ 0) ⊎ ((i : ℕ) × IsAt (Contains e.targets) targets i)

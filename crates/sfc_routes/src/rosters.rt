@@ -1,6 +1,6 @@
 //! The roster of forwarders, instances and targets.
 
-ghost use Rattle.std.specs.Prelude.{◌≡◌, ◌≢◌, ◌<◌, [], ◌∷◌, ◌++◌, ◌↔◌, length, All, MatchOption, IsTrue, IfOk, OnOk, OnErr, slice_get, Some};
+ghost use Rattle.std.specs.Prelude.{◌≡◌, ◌≢◌, ◌<◌, [], ◌↔◌, length, All, MatchOption, IsTrue, IfOk, OnOk, OnErr, Some};
 ghost use Rattle.std.specs.List.{Contains, HoldsAt};
 ghost use Rattle.text_words.specs.Names.{IsName};
 ghost use Rattle.sfc_routes.specs.Entries.{IsAt, Serves, IsRoster, Accepts, with_forwarder, with_instance, with_target};
