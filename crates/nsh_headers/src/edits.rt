@@ -3,7 +3,7 @@
 ghost use Rattle.std.specs.Prelude.{◌≡◌, ◌<◌, ◌≤◌, length, slice_set};
 ghost use Rattle.nsh_headers.specs.declared.heads.NshHead.{NshHead};
 ghost use Rattle.nsh_headers.specs.Head.{IsHead};
-ghost use Rattle.nsh_headers.specs.Edit.{TtlBecomes, ttl_in, lowered, with_ttl, with_si};
+ghost use Rattle.nsh_headers.specs.Edit.{TtlBecomes, ttl_in, lowered, with_length, with_ttl, with_words, with_si};
 
 use wire_base::{be_u16, put_u16};
 
@@ -17,6 +17,16 @@ pub fn set_ttl(bytes: &mut [u8], ttl: u8)
     let word = be_u16(bytes);
     let upper = (word >> 12 << 6) | u16::from(ttl);
     put_u16(bytes, (upper << 6) | (word & 0x3f));
+}
+
+/// Sets the Length of a header, in words of 4 bytes. Every other bit stays.
+pub fn set_words(bytes: &mut [u8], words: u8)
+    requires room { 8 ≤ length bytes.old }
+    requires range { words < 64 }
+    ensures edit { bytes.new ≡ with_length bytes.old words }
+    ensures head { (h : NshHead) → IsHead bytes.old h → IsHead bytes.new (with_words h words) }
+{
+    bytes[1] = (bytes[1] >> 6 << 6) | words;
 }
 
 /// Sets the service index of a header, which is its eighth byte. Every other byte stays.

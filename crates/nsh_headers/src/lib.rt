@@ -15,7 +15,7 @@
 //! - `decode_head` gives the head exactly where the bytes spell one whose Length fits its MD Type, and
 //!   else the first refusal (`HeadRefused`).
 //! - `encode_head` gives 8 bytes that spell the head.
-//! - `lower_ttl`, `set_ttl` and `set_si` edit a header where it lies. Each changes its own bits alone, in
+//! - `lower_ttl`, `set_ttl`, `set_words` and `set_si` edit a header where it lies. Each changes its own bits alone, in
 //!   bytes that are no header too; where the bytes spell a head, they then spell it with the new field.
 //!
 //! It reads no context (that is `nsh_metadata`), takes no memory, and keeps every unassigned bit.
@@ -34,11 +34,9 @@ mod encoding;
 mod faults;
 mod heads;
 mod laws;
-#[cfg(test)]
-mod tests;
 
 pub use decoding::decode_head;
-pub use edits::{lower_ttl, set_si, set_ttl};
+pub use edits::{lower_ttl, set_si, set_ttl, set_words};
 pub use encoding::encode_head;
 pub use faults::NshFault;
 pub use heads::{Base, NshHead, ServicePath};
