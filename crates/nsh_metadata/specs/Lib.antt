@@ -2,6 +2,7 @@ pub mod Item
 pub mod Shown
 pub mod Survey
 pub mod Header
+pub mod Changes
 pub mod Refusal
 pub mod Reading
 pub mod Kept

@@ -49,7 +49,8 @@ impl Model for NshFeed {
 impl NshFeed {
     /// A feed that has taken nothing.
     pub fn new() -> NshFeed
-        ensures { result ≡ waiting [] }
+        ensures value { result ≡ waiting [] }
+        ensures history { Stands result [] [] }
     {
         NshFeed {
             held: [0; LARGEST],

@@ -1,7 +1,9 @@
 //! Context items of MD Type 2 (RFC 8300, section 2.5.1).
 
-ghost use Rattle.std.specs.Prelude.{◌≡◌, ◌+◌, ◌-◌, ◌*◌, ◌/◌, ◌%◌, ◌<◌, ◌≤◌, ◌↔◌, ◌∷◌, [], ◌++◌, length, take, drop, slice_index, slice_get, IsErr, IsTrue, OnOk, OnErr, Some};
-ghost use Rattle.nsh_metadata.specs.Item.{IsItem, pad_len, item_len, item_bytes, items_bytes, items_in, item_at, item_size, new_item, AreItems, HoldsItems};
+ghost use Rattle.std.specs.Prelude.{◌≡◌, List, ◌+◌, ◌-◌, ◌*◌, ◌/◌, ◌%◌, ◌<◌, ◌≤◌, ◌↔◌, ◌∷◌, [], ◌++◌, length, take, drop, slice_index, slice_get, IsErr, IsTrue, OnOk, OnErr, Some};
+ghost use Rattle.nsh_metadata.specs.Item.{Item, IsItem, pad_len, item_len, item_bytes, items_bytes, items_in, item_at, item_size, new_item, AreItems, HoldsItems};
+ghost use Rattle.std.specs.List.{list_any};
+ghost use Rattle.nsh_metadata.specs.Changes.{is_of};
 ghost use Rattle.nsh_metadata.specs.Shown.{shown};
 
 use std::marker::Model;
@@ -60,7 +62,7 @@ fn item_ref(rest: &[u8]) -> ItemRef<'_>
 }
 
 /// Writes an item with a clear unassigned bit and pad bytes 0.
-fn write_item(into: &mut [u8], class: u16, kind: u8, body: &[u8])
+pub(crate) fn write_item(into: &mut [u8], class: u16, kind: u8, body: &[u8])
     requires len { length body.now < 128 }
     requires room { length into.old ≡ item_len (length body.now) }
     ensures { into.new ≡ item_bytes (new_item class kind body.now) }
@@ -75,6 +77,29 @@ fn write_item(into: &mut [u8], class: u16, kind: u8, body: &[u8])
     let (content, pad) = rest.split_at_mut(body.len());
     content.copy_from_slice(body);
     pad.fill(0);
+}
+
+/// Whether the item at the front has this class and type.
+fn is_at(rest: &[u8], class: u16, kind: u8) -> bool
+    requires { 4 ≤ length rest.now }
+    ensures { result ≡ is_of class kind (item_at rest.now) }
+{
+    be_u16(rest) == class && rest[2] == kind
+}
+
+/// Whether one of the items that the bytes spell, all of the bytes, has this class and type.
+pub(crate) fn is_among(bytes: &[u8], class: u16, kind: u8) -> bool
+    requires { (items : List Item) × AreItems items × (bytes.now ≡ items_bytes items) }
+    ensures { (items : List Item) → AreItems items → bytes.now ≡ items_bytes items → result ≡ list_any (is_of class kind) items }
+{
+    let mut rest = bytes;
+    while !rest.is_empty() {
+        if is_at(rest, class, kind) {
+            return true;
+        }
+        rest = rest.split_at(size_at(rest)).1;
+    }
+    false
 }
 
 /// The context items of one header, at most 244 bytes of them, which lie in the value itself.
@@ -133,6 +158,13 @@ impl ItemList {
             rest = rest.split_at(size_at(rest)).1;
         }
         item_ref(rest)
+    }
+
+    /// Whether an item has this class and type.
+    pub fn has(&self, class: u16, kind: u8) -> bool
+        ensures { result ≡ list_any (is_of class kind) self.now }
+    {
+        is_among(self.bytes(), class, kind)
     }
 
     /// Adds an item at the end, with a clear unassigned bit and pad bytes 0.

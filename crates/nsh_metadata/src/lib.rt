@@ -17,6 +17,9 @@
 //!   was read is written back byte for byte (`one_spelling`).
 //! - `NshFeed::push` answers the same for every cutting into pieces (`any_cutting`): `More` exactly where the
 //!   bytes so far are no whole header and show no fault (`Held`).
+//! - `Nsh::push_item`, `Nsh::clear_context` and `Nsh::set_si` change a header, and `Context::has_item` finds an item by
+//!   class and type. The functions `push_item`, `clear_context` and `has_item` do the same in a header's bytes, which
+//!   are then the spelling of the changed header.
 //! - An `ItemList` is the list of its items; `push` adds one, unless they would pass 244 bytes.
 //!
 //! No call takes memory: a header lies in 300 bytes of its own, and `copy` copies it.
@@ -36,17 +39,17 @@ mod decoding;
 mod encoding;
 mod feeds;
 mod headers;
+mod in_place;
 mod items;
 mod laws;
 mod surveys;
-#[cfg(test)]
-mod tests;
 
-pub use contexts::Context;
+pub use contexts::{Context, ItemFault};
 pub use crossing::types_cross_threads;
 pub use decoding::decode_nsh;
 pub use encoding::encode_nsh;
 pub use feeds::{NshFeed, NshStep};
 pub use headers::Nsh;
+pub use in_place::{clear_context, has_item, push_item};
 pub use items::{ItemList, ItemRef};
 pub use laws::{any_cutting, one_header, one_refusal, one_spelling, spelled_is_not_refused};
