@@ -4,6 +4,7 @@ use Rattle.std.specs.Prelude.{◌==◌, ◌≢◌, MatchOption}
 use Rattle.std.proofs.Common.{Option, Some, None}
 use Rattle.std.proofs.lemmas.List.Elements.{All-from_recursion}
 use Rattle.text_words.specs.Reading.{Reads}
+use Rattle.text_words.specs.Printing.{AppendsFront}
 use Rattle.std.specs.List.{join_with_byte, All}
 use Rattle.std.specs.Fmt.{decimal}
 use Rattle.std.proofs.lemmas.List.Splits.{slice_split_at, slice_split_none, join_with_byte-slice_split}
@@ -91,6 +92,82 @@ pub printed_in_turn : (out octets : List ℕ) {o1 o2 o3 o4 o5 o6 o7 : List ℕ} 
 printed_in_turn out octets e1 e2 e3 e4 e5 e6 e7 f0 f1 f2 f3 len =
     let all = printed out octets len in
     rw (e7, e6, e5, e4, e3, e2, e1, f0, f1, f2, f3) all
+
+-- the front of four numbers that was appended where the next piece was not: behind the first point and so on
+pub front_2 : (out octets : List ℕ) {o1 o2 after : List ℕ} {d0 : ℕ}
+    → o1 ≡ out ++ decimal d0 → o2 ≡ o1 ++ 46 ∷ [] → after ≡ o2
+    → d0 ≡ get_or octets 0 0 → length octets ≡ 4 → AppendsFront out (dotted octets) after
+front_2 out [] e1 e2 last f0 len = absurd (omega (arith, len))
+front_2 out (a ∷ []) e1 e2 last f0 len = absurd (omega (arith, len))
+front_2 out (a ∷ b ∷ []) e1 e2 last f0 len = absurd (omega (arith, len))
+front_2 out (a ∷ b ∷ c ∷ []) e1 e2 last f0 len = absurd (omega (arith, len))
+front_2 out (a ∷ b ∷ c ∷ d ∷ []) e1 e2 last f0 len = record {
+  front = decimal a ++ 46 ∷ [];
+  rest = decimal b ++ 46 ∷ (decimal c ++ 46 ∷ (decimal d));
+  cut = simp append_assoc;
+  appended = rw (last, e2, e1, f0) (simp append_assoc);
+}
+front_2 out (a ∷ b ∷ c ∷ d ∷ x ∷ xs) e1 e2 last f0 len = absurd (omega (arith, len))
+
+pub front_3 : (out octets : List ℕ) {o1 o2 o3 after : List ℕ} {d0 d1 : ℕ}
+    → o1 ≡ out ++ decimal d0 → o2 ≡ o1 ++ 46 ∷ [] → o3 ≡ o2 ++ decimal d1 → after ≡ o3
+    → d0 ≡ get_or octets 0 0 → d1 ≡ get_or octets 1 0 → length octets ≡ 4 → AppendsFront out (dotted octets) after
+front_3 out [] e1 e2 e3 last f0 f1 len = absurd (omega (arith, len))
+front_3 out (a ∷ []) e1 e2 e3 last f0 f1 len = absurd (omega (arith, len))
+front_3 out (a ∷ b ∷ []) e1 e2 e3 last f0 f1 len = absurd (omega (arith, len))
+front_3 out (a ∷ b ∷ c ∷ []) e1 e2 e3 last f0 f1 len = absurd (omega (arith, len))
+front_3 out (a ∷ b ∷ c ∷ d ∷ []) e1 e2 e3 last f0 f1 len = record {
+  front = (decimal a ++ 46 ∷ []) ++ decimal b;
+  rest = 46 ∷ (decimal c ++ 46 ∷ (decimal d));
+  cut = simp append_assoc;
+  appended = rw (last, e3, e2, e1, f0, f1) (simp append_assoc);
+}
+front_3 out (a ∷ b ∷ c ∷ d ∷ x ∷ xs) e1 e2 e3 last f0 f1 len = absurd (omega (arith, len))
+
+pub front_4 : (out octets : List ℕ) {o1 o2 o3 o4 after : List ℕ} {d0 d1 : ℕ}
+    → o1 ≡ out ++ decimal d0 → o2 ≡ o1 ++ 46 ∷ [] → o3 ≡ o2 ++ decimal d1 → o4 ≡ o3 ++ 46 ∷ [] → after ≡ o4
+    → d0 ≡ get_or octets 0 0 → d1 ≡ get_or octets 1 0 → length octets ≡ 4 → AppendsFront out (dotted octets) after
+front_4 out [] e1 e2 e3 e4 last f0 f1 len = absurd (omega (arith, len))
+front_4 out (a ∷ []) e1 e2 e3 e4 last f0 f1 len = absurd (omega (arith, len))
+front_4 out (a ∷ b ∷ []) e1 e2 e3 e4 last f0 f1 len = absurd (omega (arith, len))
+front_4 out (a ∷ b ∷ c ∷ []) e1 e2 e3 e4 last f0 f1 len = absurd (omega (arith, len))
+front_4 out (a ∷ b ∷ c ∷ d ∷ []) e1 e2 e3 e4 last f0 f1 len = record {
+  front = ((decimal a ++ 46 ∷ []) ++ decimal b) ++ 46 ∷ [];
+  rest = decimal c ++ 46 ∷ (decimal d);
+  cut = simp append_assoc;
+  appended = rw (last, e4, e3, e2, e1, f0, f1) (simp append_assoc);
+}
+front_4 out (a ∷ b ∷ c ∷ d ∷ x ∷ xs) e1 e2 e3 e4 last f0 f1 len = absurd (omega (arith, len))
+
+pub front_5 : (out octets : List ℕ) {o1 o2 o3 o4 o5 after : List ℕ} {d0 d1 d2 : ℕ}
+    → o1 ≡ out ++ decimal d0 → o2 ≡ o1 ++ 46 ∷ [] → o3 ≡ o2 ++ decimal d1 → o4 ≡ o3 ++ 46 ∷ [] → o5 ≡ o4 ++ decimal d2 → after ≡ o5
+    → d0 ≡ get_or octets 0 0 → d1 ≡ get_or octets 1 0 → d2 ≡ get_or octets 2 0 → length octets ≡ 4 → AppendsFront out (dotted octets) after
+front_5 out [] e1 e2 e3 e4 e5 last f0 f1 f2 len = absurd (omega (arith, len))
+front_5 out (a ∷ []) e1 e2 e3 e4 e5 last f0 f1 f2 len = absurd (omega (arith, len))
+front_5 out (a ∷ b ∷ []) e1 e2 e3 e4 e5 last f0 f1 f2 len = absurd (omega (arith, len))
+front_5 out (a ∷ b ∷ c ∷ []) e1 e2 e3 e4 e5 last f0 f1 f2 len = absurd (omega (arith, len))
+front_5 out (a ∷ b ∷ c ∷ d ∷ []) e1 e2 e3 e4 e5 last f0 f1 f2 len = record {
+  front = (((decimal a ++ 46 ∷ []) ++ decimal b) ++ 46 ∷ []) ++ decimal c;
+  rest = 46 ∷ (decimal d);
+  cut = simp append_assoc;
+  appended = rw (last, e5, e4, e3, e2, e1, f0, f1, f2) (simp append_assoc);
+}
+front_5 out (a ∷ b ∷ c ∷ d ∷ x ∷ xs) e1 e2 e3 e4 e5 last f0 f1 f2 len = absurd (omega (arith, len))
+
+pub front_6 : (out octets : List ℕ) {o1 o2 o3 o4 o5 o6 after : List ℕ} {d0 d1 d2 : ℕ}
+    → o1 ≡ out ++ decimal d0 → o2 ≡ o1 ++ 46 ∷ [] → o3 ≡ o2 ++ decimal d1 → o4 ≡ o3 ++ 46 ∷ [] → o5 ≡ o4 ++ decimal d2 → o6 ≡ o5 ++ 46 ∷ [] → after ≡ o6
+    → d0 ≡ get_or octets 0 0 → d1 ≡ get_or octets 1 0 → d2 ≡ get_or octets 2 0 → length octets ≡ 4 → AppendsFront out (dotted octets) after
+front_6 out [] e1 e2 e3 e4 e5 e6 last f0 f1 f2 len = absurd (omega (arith, len))
+front_6 out (a ∷ []) e1 e2 e3 e4 e5 e6 last f0 f1 f2 len = absurd (omega (arith, len))
+front_6 out (a ∷ b ∷ []) e1 e2 e3 e4 e5 e6 last f0 f1 f2 len = absurd (omega (arith, len))
+front_6 out (a ∷ b ∷ c ∷ []) e1 e2 e3 e4 e5 e6 last f0 f1 f2 len = absurd (omega (arith, len))
+front_6 out (a ∷ b ∷ c ∷ d ∷ []) e1 e2 e3 e4 e5 e6 last f0 f1 f2 len = record {
+  front = ((((decimal a ++ 46 ∷ []) ++ decimal b) ++ 46 ∷ []) ++ decimal c) ++ 46 ∷ [];
+  rest = decimal d;
+  cut = simp append_assoc;
+  appended = rw (last, e6, e5, e4, e3, e2, e1, f0, f1, f2) (simp append_assoc);
+}
+front_6 out (a ∷ b ∷ c ∷ d ∷ x ∷ xs) e1 e2 e3 e4 e5 e6 last f0 f1 f2 len = absurd (omega (arith, len))
 
 -- what follows in one list that is shown twice
 pub tail_is : (xs : List (List ℕ)) (x y : List ℕ) (ps qs : List (List ℕ)) → xs ≡ x ∷ ps → xs ≡ y ∷ qs → ps ≡ qs

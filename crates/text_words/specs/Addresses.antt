@@ -4,7 +4,9 @@ use Rattle.std.specs.List.{join_with_byte}
 use Rattle.std.specs.Fmt.{decimal}
 use Rattle.wire_base.specs.declared.next_hops.NextHop.{NextHop}
 use Rattle.wire_base.specs.declared.next_hops.NextHop.TheVariants.{Four, Sixteen}
-use Rattle.text_words.specs.Hexadecimal.{hexadecimal, IsOctets}
+use Rattle.text_words.specs.Hexadecimal.{hexadecimal}
+-- the bytes that an address has
+pub use Rattle.wire_base.specs.Addresses.{IsAddress}
 
 -- four numbers from 0 to 255 joined by points
 abbrev pub dotted : List ℕ → List ℕ
@@ -14,8 +16,3 @@ dotted octets = join_with_byte 46 (map decimal octets)
 abbrev pub address_text : NextHop → List ℕ
 address_text (Four octets) = dotted octets
 address_text (Sixteen octets) = hexadecimal octets
-
--- the bytes that an address has
-abbrev pub IsAddress : NextHop → Type 0
-IsAddress (Four octets) = IsOctets 4 octets
-IsAddress (Sixteen octets) = IsOctets 16 octets

@@ -4,4 +4,5 @@ pub mod Lines
 pub mod Names
 pub mod Numbers
 pub mod Pieces
+pub mod Printing
 pub mod Reading

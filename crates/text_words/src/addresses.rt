@@ -5,6 +5,7 @@ ghost use Rattle.std.specs.Fmt.{decimal};
 ghost use Rattle.text_words.specs.Reading.{Reads, ReadsFirst};
 ghost use Rattle.text_words.specs.Hexadecimal.{IsOctets};
 ghost use Rattle.text_words.specs.Addresses.{dotted, address_text, IsAddress};
+ghost use Rattle.text_words.specs.Printing.{AppendsFront};
 
 use crate::hexadecimals::{octets_are_bytes, print_octets, read_octets};
 use crate::number_text::print_number;
@@ -57,9 +58,10 @@ pub fn read_address(word: &[u8]) -> Option<NextHop>
     }
 }
 
-/// Appends four numbers joined by points. After want of memory some of them may have been appended.
+/// Appends four numbers joined by points.
 pub fn print_dotted(out: &mut Bytes, octets: &Fixed<4>) -> Result<(), OutOfMemory>
-    ensures { OnOk result (out.new ≡ out.old ++ dotted octets.now) }
+    ensures ok { OnOk result (out.new ≡ out.old ++ dotted octets.now) }
+    ensures err { OnErr result (AppendsFront out.old (dotted octets.now) out.new) }
 {
     let octets = octets.bytes();
     print_number(out, u64::from(octets[0]))?;
@@ -72,9 +74,10 @@ pub fn print_dotted(out: &mut Bytes, octets: &Fixed<4>) -> Result<(), OutOfMemor
     Ok(())
 }
 
-/// Appends an address. After want of memory a part of it may have been appended.
+/// Appends an address.
 pub fn print_address(out: &mut Bytes, address: &NextHop) -> Result<(), OutOfMemory>
-    ensures { OnOk result (out.new ≡ out.old ++ address_text address.now) }
+    ensures ok { OnOk result (out.new ≡ out.old ++ address_text address.now) }
+    ensures err { OnErr result (AppendsFront out.old (address_text address.now) out.new) }
 {
     match address {
         NextHop::Four(octets) => print_dotted(out, octets),

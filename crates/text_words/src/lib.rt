@@ -12,7 +12,7 @@
 //! - `TextLines` gives the lines of a text (`lines_of`), `Pieces` a line cut at a mark (`pieces_of`).
 //! - `read_number` and `print_number`: decimal without leading zeros, in a range.
 //! - `Name`: 1 to 16 characters that begin with a letter (`IsName`).
-//! - `read_octets`, `read_four_digits`, `read_octets_or_dash`: hexadecimal digits in lower case.
+//! - `read_octets`, `read_four_digits`, `read_octets_or_dash`: hexadecimal digits in lower case, of any number of bytes.
 //! - `read_address`: four numbers joined by points (`dotted`), or 32 digits.
 //!
 //! It does no IO, and only the printers take memory.
@@ -24,16 +24,16 @@
 #![tactic(auto)]
 
 mod addresses;
+mod crossing;
 mod hexadecimals;
 mod line_cursor;
 mod name_text;
 mod number_text;
 mod piece_cursor;
 mod places;
-#[cfg(test)]
-mod tests;
 
 pub use addresses::{address_has_bytes, print_address, print_dotted, read_address, read_dotted};
+pub use crossing::types_cross_threads;
 pub use hexadecimals::{
     octets_are_bytes, print_four_digits, print_octets, print_octets_or_dash, read_four_digits,
     read_octets, read_octets_or_dash,

@@ -89,7 +89,6 @@ impl<'a> Pieces<'a> {
 
     /// Takes the first piece as the digits of exactly N bytes.
     pub fn next_octets<const N: usize>(&mut self) -> Option<Fixed<N>>
-        requires { N ≤ 128 }
         ensures { ReadsFirst (IsOctets N) hexadecimal self.old result self.new }
     {
         let Some(word) = self.next() else {

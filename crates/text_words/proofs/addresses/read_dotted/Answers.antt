@@ -43,7 +43,7 @@ returns-then-not-is_done c = λ v octets e.
 
 pub returns : goal.returns
 returns c =
-    reads_four c.args.word.now _ _ _ _ c.of.result c.of.ensures
+    reads_four c.args.word.now _ _ _ _ c.of.result c.of.ensures.value
     c.in-Some.ensures.0 c.in-Some-next_octet.ensures.0 c.in-Some-next_octet-2.ensures.0 c.in-Some-next_octet-3.ensures.0
     (sym c.of-parts.ensures ∙ c.in-Some.ensures.1
     ∙ ap (λ r. decimal c.in-Some.first ∷ r) (c.in-Some-next_octet.ensures.1

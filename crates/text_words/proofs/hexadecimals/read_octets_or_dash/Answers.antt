@@ -20,6 +20,6 @@ returns-then-not-fill_octets g c = λ v fits e. elim (dash_or_digits _ v.items e
   | inl dash ↦ let yes = c.is_dash.ensures.1 dash in let no = c.if-is_dash.false in cc
   | inr digits ↦
       let half : length v.items ≡ length c.args.word.now / 2 = omega (arith, digits) in
-      let room = length-take-le (length c.args.word.now / 2) _ (omega (arith, c.requires, c.if-count.false)) in
+      let room = length-take-le (length c.args.word.now / 2) _ (grind (arith, c.if-count.false)) in
       c.if-not-fill_octets.ensures.value v.items (half ∙ sym room, fits.1) digits.2
 ]
