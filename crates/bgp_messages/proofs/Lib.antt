@@ -8,3 +8,4 @@ pub mod ContentReadings
 pub mod MessageReadings
 pub mod StreamLemmas
 pub mod TotalReadings
+pub mod MoreReadings

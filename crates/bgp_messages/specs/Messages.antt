@@ -3,7 +3,8 @@ use Rattle.std.specs.Prelude.{◌≡◌, ◌≢◌, ℕ, ◌+◌, ◌≤◌, Lis
 use Rattle.std.specs.List.{flat_map, AllByRecursion}
 use Rattle.bgp_messages.specs.declared.messages.Message.{Message}
 use Rattle.bgp_messages.specs.declared.messages.Message.TheVariants as variants
-use Rattle.bgp_messages.specs.Opens.{two, open_bytes, OpenFits}
+use Rattle.wire_base.specs.Numbers.{two}
+use Rattle.bgp_messages.specs.Opens.{open_bytes, OpenFits}
 
 -- the number of a message's type
 abbrev pub type_of : Message → ℕ

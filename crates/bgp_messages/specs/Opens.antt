@@ -1,19 +1,11 @@
 -- The content of an OPEN (RFC 4271, section 4.2), whose parameters are lists of capabilities (RFC 5492, section 4).
-use Rattle.std.specs.Prelude.{◌≢◌, ℕ, ◌/◌, ◌%◌, ◌^◌, ◌<◌, ◌==◌, Bool, ◌&&◌, List, [], ◌∷◌, ◌++◌, length, find}
+use Rattle.std.specs.Prelude.{◌≢◌, ℕ, ◌^◌, ◌<◌, ◌==◌, Bool, ◌&&◌, List, ◌∷◌, ◌++◌, length, find}
 use Rattle.std.specs.List.{flat_map}
 use Rattle.std.specs.Option.{option_map_or}
-use Rattle.wire_base.specs.Numbers.{big_endian}
+use Rattle.wire_base.specs.Numbers.{big_endian, two, four}
 use Rattle.bgp_messages.specs.declared.opens.Open.{Open}
 use Rattle.bgp_messages.specs.declared.opens.Param.{Param}
 use Rattle.bgp_messages.specs.declared.opens.Capability.{Capability}
-
--- a number below 2^16 as its 2 bytes, the highest first
-abbrev pub two : ℕ → List ℕ
-two n = n / 256 ∷ n % 256 ∷ []
-
--- a number below 2^32 as its 4 bytes, the highest first
-abbrev pub four : ℕ → List ℕ
-four n = two (n / 65536) ++ two (n % 65536)
 
 -- a capability: its code, the length of its body, its body
 abbrev pub capability_bytes : Capability → List ℕ

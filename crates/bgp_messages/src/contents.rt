@@ -44,14 +44,6 @@ impl From<OutOfMemory> for ContentFault {
     }
 }
 
-fn copy_of(alloc: Global, bytes: &[u8]) -> Result<Bytes, OutOfMemory>
-    ensures { IfOk result (λ copy. copy ≡ bytes.now) }
-{
-    let mut copy = Bytes::new(alloc);
-    copy.push_all(bytes)?;
-    Ok(copy)
-}
-
 /// The capabilities that fill the value of a parameter, which begins at the place.
 fn read_capabilities(
     alloc: Global,
@@ -68,7 +60,7 @@ fn read_capabilities(
             let before = (value.len() - rest.len()) as u16;
             return Err(ContentFault::Refused(Fault::Malformed(place + before)));
         };
-        let body = copy_of(alloc, item.value)?;
+        let body = Bytes::copy_of(alloc, item.value)?;
         caps.push(Capability {
             code: item.code,
             body,
@@ -148,11 +140,11 @@ pub(crate) fn read_content(
 {
     match kind {
         Kind::Open => Ok(Message::Open(read_open(alloc, content)?)),
-        Kind::Update => Ok(Message::Update(copy_of(alloc, content)?)),
+        Kind::Update => Ok(Message::Update(Bytes::copy_of(alloc, content)?)),
         Kind::Notification => Ok(Message::Notification(Notice {
             code: content[0],
             subcode: content[1],
-            info: copy_of(alloc, &content[2..])?,
+            info: Bytes::copy_of(alloc, &content[2..])?,
         })),
         Kind::KeepAlive => Ok(Message::KeepAlive),
     }

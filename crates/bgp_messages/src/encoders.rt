@@ -1,6 +1,6 @@
 ghost use Rattle.std.specs.Prelude.{◌≡◌, ◌<◌, ◌++◌, length, OnOk, IfOk};
 ghost use Rattle.std.specs.List.{flat_map};
-ghost use Rattle.bgp_messages.specs.Opens.{two, four, capability_bytes, parameters_bytes, open_bytes, OpenFits};
+ghost use Rattle.bgp_messages.specs.Opens.{capability_bytes, parameters_bytes, open_bytes, OpenFits};
 ghost use Rattle.bgp_messages.specs.Messages.{content, ContentFits, Fits, IsMessage, type_of};
 
 use crate::contents::{CAPABILITIES, VERSION};
@@ -9,26 +9,6 @@ use crate::messages::Message;
 use crate::opens::{Capability, Open, Param};
 use std::alloc::Global;
 use wire_base::{Bytes, List, OutOfMemory};
-
-/// A number as 2 bytes, the highest first.
-fn two_bytes(number: u16) -> [u8; 2]
-    ensures { result ≡ two number }
-{
-    [(number / 256) as u8, (number % 256) as u8]
-}
-
-/// A number as 4 bytes, the highest first.
-fn four_bytes(number: u32) -> [u8; 4]
-    ensures { result ≡ four number }
-{
-    let (high, low) = (number / 65536, number % 65536);
-    [
-        (high / 256) as u8,
-        (high % 256) as u8,
-        (low / 256) as u8,
-        (low % 256) as u8,
-    ]
-}
 
 fn put_capability(out: &mut Bytes, capability: &Capability) -> Result<(), OutOfMemory>
     requires { length capability.now.body < 256 }
@@ -74,9 +54,9 @@ fn put_open(alloc: Global, out: &mut Bytes, opening: &Open) -> Result<(), OutOfM
     let params = parameters_of(alloc, opening.params.as_slice())?;
     let params = params.as_slice();
     out.push_all(&[VERSION])?;
-    out.push_all(&two_bytes(opening.my_as))?;
-    out.push_all(&two_bytes(opening.hold))?;
-    out.push_all(&four_bytes(opening.id))?;
+    out.push_u16(opening.my_as)?;
+    out.push_u16(opening.hold)?;
+    out.push_u32(opening.id)?;
     out.push_all(&[params.len() as u8])?;
     out.push_all(params)?;
     Ok(())
@@ -111,7 +91,7 @@ pub fn encode_message(alloc: Global, message: &Message) -> Result<Bytes, OutOfMe
     let kind = Kind::of_message(message);
     let mut out = Bytes::new(alloc);
     out.push_all(&[MARK; MARKS])?;
-    out.push_all(&two_bytes(length))?;
+    out.push_u16(length)?;
     out.push_all(&[kind.number()])?;
     out.push_all(content)?;
     Ok(out)

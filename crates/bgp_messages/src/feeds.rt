@@ -7,7 +7,7 @@ use crate::messages::Message;
 use crate::refusals::{Fault, Refusal};
 use std::alloc::Global;
 use std::marker::Model;
-use wire_base::{Bytes, OutOfMemory};
+use wire_base::{FrontBuffer, OutOfMemory};
 
 /// Why no message is given.
 #[derive(Debug, Drop)]
@@ -73,26 +73,24 @@ impl Halt {
 #[derive(Debug, Drop)]
 pub struct BgpFeed {
     alloc: Global,
-    /// The bytes of the stream from some used one on.
-    held: Bytes,
-    /// How many of the held bytes are used.
-    start: usize,
+    /// The bytes of the stream that are not used up.
+    buffer: FrontBuffer,
     /// How many bytes of the stream are used.
     place: u64,
     halt: Option<Halt>,
 }
 
 impl Model for BgpFeed {
-    ghost use Rattle.std.specs.Prelude.{ℕ, ◌+◌, ◌-◌, ◌<◌, ◌≤◌, ◌^◌, length, drop};
+    ghost use Rattle.std.specs.Prelude.{ℕ, ◌+◌, ◌<◌, ◌^◌, length};
     ghost use Rattle.bgp_messages.specs.Kept.{Kept};
 
     ghost Value = { Kept };
 
     ghost use Rattle.bgp_messages.specs.Halts.{stop_of, HaltFits};
 
-    ghost view = { λ f. record { rest = drop f.start f.held; place = f.place; stop = stop_of f.place f.halt } };
+    ghost view = { λ f. record { rest = f.buffer.rest; place = f.place; stop = stop_of f.place f.halt } };
 
-    ghost invariant = { λ f. (f.start ≤ length f.held) × (f.place + (length f.held - f.start) < 2 ^ 64) × HaltFits f.place f.halt };
+    ghost invariant = { λ f. (f.place + length f.buffer.rest < 2 ^ 64) × HaltFits f.place f.halt };
 }
 
 impl BgpFeed {
@@ -103,12 +101,12 @@ impl BgpFeed {
 
     /// A feed that has taken nothing.
     pub fn new(alloc: Global) -> BgpFeed
-        ensures { result ≡ record { rest = []; place = 0; stop = None } }
+        ensures value { result ≡ record { rest = []; place = 0; stop = None } }
+        ensures history { Stands result [] [] }
     {
         BgpFeed {
             alloc,
-            held: Bytes::new(alloc),
-            start: 0,
+            buffer: FrontBuffer::new(alloc),
             place: 0,
             halt: None,
         }
@@ -116,9 +114,6 @@ impl BgpFeed {
 
     /// Takes the next piece of the stream. After a refusal it takes nothing. Where there is no memory for the piece, the feed
     /// has failed.
-    ///
-    /// The bytes that are not used up are moved to the front only where at least as many are used: so each byte is moved at
-    /// most as often as one is used up.
     pub fn push(&mut self, piece: &[u8]) -> Result<(), OutOfMemory>
         requires { self.old.place + length self.old.rest + length piece.now < 2 ^ 64 }
         ensures ok { OnOk result (Pushes self.old piece.now self.new) }
@@ -132,11 +127,7 @@ impl BgpFeed {
             Some(Halt::OutOfMemory) => return Err(OutOfMemory),
             None => {}
         }
-        if self.held.as_slice().len() - self.start <= self.start {
-            self.held.cut_front(self.start);
-            self.start = 0;
-        }
-        match self.held.push_all(piece) {
+        match self.buffer.push_all(piece) {
             Ok(()) => Ok(()),
             Err(fault) => {
                 self.halt = Some(Halt::OutOfMemory);
@@ -149,7 +140,7 @@ impl BgpFeed {
     pub fn rest(&self) -> &[u8]
         ensures { result.now ≡ self.now.rest }
     {
-        &self.held.as_slice()[self.start..]
+        self.buffer.rest()
     }
 
     /// How many bytes of the stream are used up.
@@ -172,10 +163,10 @@ impl BgpFeed {
         if let Some(halt) = self.halt {
             return Err(halt.fault(self.place));
         }
-        match message_step(self.alloc, &self.held.as_slice()[self.start..]) {
+        match message_step(self.alloc, self.buffer.rest()) {
             MessageStep::Wait => Ok(None),
             MessageStep::Whole(message, length) => {
-                self.start += usize::from(length);
+                self.buffer.pass(usize::from(length));
                 self.place += u64::from(length);
                 Ok(Some(message))
             }

@@ -23,3 +23,8 @@ pub fn every_stream_is_cut()
         → ((t : Told) × Refused bytes t) ⊎ (Held bytes ⊎ ((m : Message) × (more : List ℕ) × Fits m × (bytes ≡ spelling m ++ more))) }
     ensures some_cut { (stream : List ℕ) → AreBytes stream → (ms : List Message) × (rest : List ℕ) × Cuts stream ms rest }
 {}
+
+/// A refusal stands whatever follows.
+pub fn a_refusal_stands()
+    ensures { (bytes more : List ℕ) (t : Told) → Refused bytes t → Refused (bytes ++ more) t }
+{}

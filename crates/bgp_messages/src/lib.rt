@@ -13,7 +13,8 @@
 //!   It says "not yet" exactly where the rest is `Held`, and a refusal exactly where it is `Refused`.
 //! - `encode_message` writes the one spelling of a message (`IsMessage`).
 //! - `Open::peer_as` is the peer's AS, of 4 bytes where the peer has them.
-//! - Two readings of the same bytes are one (`one_reading`), and every stream has one (`every_stream_is_cut`).
+//! - Two readings of the same bytes are one (`one_reading`), every stream has one (`every_stream_is_cut`), and a refusal stands
+//!   whatever follows (`a_refusal_stands`).
 //!
 //! It looks into no UPDATE, keeps no session and no clock, and does no IO.
 //!
@@ -39,11 +40,8 @@ mod refusals;
 
 pub use encoders::encode_message;
 pub use feeds::{BgpFeed, NextFault};
-pub use laws::{every_stream_is_cut, one_reading};
+pub use laws::{a_refusal_stands, every_stream_is_cut, one_reading};
 pub use messages::Message;
 pub use notices::Notice;
 pub use opens::{Capability, Open, Param};
 pub use refusals::Refusal;
-
-#[cfg(test)]
-mod tests;

@@ -1,6 +1,5 @@
--- The step's answer, on the bytes behind the used ones.
-use Rattle.std.proofs.Common.{◌≡◌, ◌+◌, ℕ, drop, Some, None, Ok, Err, refl, sym, ap, ◌∙◌, arith}
-use Rattle.std.proofs.lemmas.List.{take_rest, length-drop}
+-- The step's answer, on the bytes that are not used up.
+use Rattle.std.proofs.Common.{◌≡◌, ◌+◌, ℕ, Some, None, Ok, Err, refl, sym, ap, ◌∙◌, arith}
 use Rattle.bgp_messages.specs.declared.feeds.NextFault.TheVariants as faults
 use Rattle.bgp_messages.specs.Kept.{refused}
 use Rattle.bgp_messages.specs.Refusals.{Told, Refused, Held}
@@ -14,22 +13,27 @@ use Rattle.bgp_messages.proofs.feeds.BgpFeed.next.Goals as goal
 
 pub refusal-requires : goal.refusal-requires
 refusal-requires c =
-    let here : Refused (drop c.self.inside.start c.self.inside.held) (told_of c.in-Refused.fault) = rw (c.as_slice.ensures, take_rest) at c.in-Refused.ensures in
-    omega (arith, refused_place _ _ here, length-drop c.self.inside.start c.self.inside.held, c.self.invariant.1, c.self.invariant.0)
+    let here : Refused c.self.inside.buffer.rest (told_of c.in-Refused.fault) = rw c.rest.ensures at c.in-Refused.ensures in
+    omega (arith, refused_place _ _ here, c.self.invariant.0)
+
+pub pass-requires : goal.pass-requires
+pass-requires c =
+    let begun : Begins c.self.inside.buffer.rest c.in-Whole.message c.in-Whole.length = rw c.rest.ensures at c.in-Whole.ensures in
+    rw c.from.ensures begun.there
 
 pub returns-in-Whole-clause-first : goal.returns-in-Whole-clause-first
 returns-in-Whole-clause-first c = λ on.
-    let begun : Begins (drop c.self.inside.start c.self.inside.held) c.in-Whole.message c.in-Whole.length = rw (c.as_slice.ensures, take_rest) at c.in-Whole.ensures in
+    let begun : Begins c.self.inside.buffer.rest c.in-Whole.message c.in-Whole.length = rw c.rest.ensures at c.in-Whole.ensures in
     rw (← c.self.view_is) (record {
       fits = begun.message.fits;
-      rest = rw c.from.ensures (rest_after c.self.inside.held c.self.inside.start c.in-Whole.length c.in-Whole.message begun);
+      rest = rw (c.pass.ensures.rest, c.from.ensures) (rest_after c.self.inside.buffer.rest c.in-Whole.length c.in-Whole.message begun);
       place = ap (λ (n : ℕ). c.self.inside.place + n) (c.from-in-Whole.ensures ∙ sym (length_begun _ c.in-Whole.length c.in-Whole.message begun));
       goes_on = rw c.in_default.is refl;
     })
 
 pub returns-in-Refused-clause-first : goal.returns-in-Refused-clause-first
 returns-in-Refused-clause-first c = λ on.
-    let here : Refused (drop c.self.inside.start c.self.inside.held) (told_of c.in-Refused.fault) = rw (c.as_slice.ensures, take_rest) at c.in-Refused.ensures in
+    let here : Refused c.self.inside.buffer.rest (told_of c.in-Refused.fault) = rw c.rest.ensures at c.in-Refused.ensures in
     rw (← c.self.view_is) (record {
       here = record { row = told_of c.in-Refused.fault; here = here; told = c.refusal.ensures };
       same_rest = refl;
@@ -54,7 +58,7 @@ returns-in-Refused-clause-history c = λ taken given stands.
 
 pub returns-in-Wait-clause-exact : goal.returns-in-Wait-clause-exact
 returns-in-Wait-clause-exact c = λ on.
-    let here : Held (drop c.self.inside.start c.self.inside.held) = rw (c.as_slice.ensures, take_rest) at c.in-Wait.ensures in
+    let here : Held c.self.inside.buffer.rest = rw c.rest.ensures at c.in-Wait.ensures in
     let held : Held c.args.self.now.rest = rw (← c.self.view_is) here in
     exact_from_first c.args.self.now c.args.self.now (Ok None) (record { held = held; same = refl })
 
