@@ -9,7 +9,7 @@ use Rattle.bgp_update.specs.declared.attributes.Attribute.{Attribute}
 use Rattle.bgp_update.specs.declared.faults.UpdateFault.{UpdateFault}
 use Rattle.bgp_update.specs.declared.faults.UpdateFault.TheVariants as faults
 use Rattle.bgp_update.specs.Faults.{Tells}
-use Rattle.bgp_update.specs.Nlris.{two}
+use Rattle.wire_base.specs.Numbers.{two}
 use Rattle.bgp_update.specs.Attributes.{body_bytes, size_bytes, size_limit, attribute_bytes, attributes_bytes, AttributeFits}
 use Rattle.bgp_update.specs.Updates.{count_of, AttributesFit}
 use Rattle.bgp_update.specs.Refusals.{header_size, Splits, Repeats, RefusedValue, RefusedAttributes}

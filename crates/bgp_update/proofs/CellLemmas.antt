@@ -1,7 +1,6 @@
 -- Pieces of bytes as they are read: each number from its cells.
 use Rattle.std.proofs.Common.{◌≡◌, ℕ, suc, ◌+◌, ◌*◌, ◌/◌, ◌%◌, ◌==◌, ◌<◌, ◌≤◌, true, List, [], ◌∷◌, ◌++◌, length, get_or, take, drop, refl, sym, ap, subst, ◌∙◌, append_assoc, arith}
-use Rattle.wire_base.specs.Numbers.{big_endian}
-use Rattle.bgp_update.specs.Nlris.{two, three}
+use Rattle.wire_base.specs.Numbers.{big_endian, two, three}
 use Rattle.bgp_update.specs.Refusals.{Splits, Opens}
 use Rattle.bgp_update.specs.Pieces.{SplitsNlri}
 

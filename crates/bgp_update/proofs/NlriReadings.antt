@@ -3,7 +3,8 @@ use Rattle.std.proofs.Common.{◌≡◌, ℕ, ◌+◌, ◌/◌, ◌%◌, ◌<◌
 use Rattle.std.proofs.lemmas.List.{append-nil, length-append}
 use Rattle.bgp_update.specs.declared.routes.Nlri.{Nlri}
 use Rattle.bgp_update.specs.declared.routes.Nlri.TheVariants as routes
-use Rattle.bgp_update.specs.Nlris.{two, three, kind_of, inside, nlri_bytes, list_bytes, NlriFits, ListFits}
+use Rattle.wire_base.specs.Numbers.{two, three}
+use Rattle.bgp_update.specs.Nlris.{kind_of, inside, nlri_bytes, list_bytes, NlriFits, ListFits}
 use Rattle.bgp_update.specs.Refusals.{number_at, WrongSize, BadNlri, RefusedList}
 use Rattle.wire_base.proofs.SplitLemmas.{Reads, same_parts, one_split}
 

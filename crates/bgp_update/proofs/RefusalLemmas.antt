@@ -2,7 +2,8 @@
 use Rattle.std.proofs.Common.{◌≡◌, ℕ, ◌+◌, ◌≤◌, List, ◌∷◌, ◌++◌, length, ap, inl, inr, arith}
 use Rattle.std.proofs.lemmas.List.{length-append}
 use Rattle.bgp_update.specs.declared.attributes.Attribute.{Attribute}
-use Rattle.bgp_update.specs.Nlris.{two, list_bytes}
+use Rattle.wire_base.specs.Numbers.{two}
+use Rattle.bgp_update.specs.Nlris.{list_bytes}
 use Rattle.bgp_update.specs.Attributes.{hop_bytes, attributes_bytes}
 use Rattle.bgp_update.specs.Refusals.{header_size, RefusedList, RefusedReach, RefusedValue, RefusedAttribute, RefusedAttributes, Opens, Refused}
 use Rattle.bgp_update.proofs.AttributeLemmas.{value_ends}

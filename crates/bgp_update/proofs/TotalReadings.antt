@@ -4,7 +4,7 @@ use Rattle.std.specs.List.{flat_map}
 use Rattle.std.proofs.lemmas.List.{take-append-drop, append-nil, length-append, length-take, length-drop, get_or-take, get_or-drop, get_or_past}
 use Rattle.std.proofs.lemmas.List.Elements.{All-get_or}
 use Rattle.std.proofs.lemmas.Bool.{cases_lt, cases_eq}
-use Rattle.wire_base.specs.Numbers.{AreBytes, big_endian}
+use Rattle.wire_base.specs.Numbers.{AreBytes, big_endian, two}
 use Rattle.wire_base.specs.declared.next_hops.NextHop.{NextHop}
 use Rattle.wire_base.specs.declared.next_hops.NextHop.TheVariants as hops
 use Rattle.bgp_update.specs.declared.routes.Nlri.{Nlri}
@@ -13,7 +13,7 @@ use Rattle.bgp_update.specs.declared.attributes.Attribute.{Attribute}
 use Rattle.bgp_update.specs.declared.attributes.Body.{Body}
 use Rattle.bgp_update.specs.declared.attributes.Body.TheVariants as bodies
 use Rattle.bgp_update.specs.declared.updates.Update.{Update}
-use Rattle.bgp_update.specs.Nlris.{two, inside, nlri_bytes, list_bytes, NlriFits}
+use Rattle.bgp_update.specs.Nlris.{inside, nlri_bytes, list_bytes, NlriFits}
 use Rattle.bgp_update.specs.Attributes.{family, HasFamily, hop_bytes, attributes_bytes, IsReachability, HasCommunities}
 use Rattle.bgp_update.specs.Updates.{count_of, AttributesFit, IsUpdate}
 use Rattle.bgp_update.specs.Refusals.{number_at, ShortNlri, WrongSize, BadNlri, RefusedList, header_size, RunsPast, Splits, Repeats, BadReach, SplitsReach, RefusedValue, RefusedAttributes, Opens, OpensNot, Refused}

@@ -7,7 +7,7 @@ use Rattle.std.proofs.lemmas.List.Sums.{sum_by-append}
 use Rattle.bgp_update.specs.declared.attributes.Attribute.{Attribute}
 use Rattle.bgp_update.specs.declared.attributes.Body.{Body}
 use Rattle.bgp_update.specs.declared.updates.Update.{Update}
-use Rattle.bgp_update.specs.Nlris.{two}
+use Rattle.wire_base.specs.Numbers.{two}
 use Rattle.bgp_update.specs.Attributes.{body_bytes, BodyFits, size_bytes, size_limit, attribute_bytes, attributes_bytes, AttributeFits}
 use Rattle.bgp_update.specs.Updates.{count_of, AttributesFit, IsUpdate}
 use Rattle.bgp_update.specs.Refusals.{number_at, header_size, RunsPast, Splits, Repeats, RefusedValue, RefusedAttribute, RefusedAttributes, Opens, OpensNot, RefusedSize, RefusedOne, Refused}

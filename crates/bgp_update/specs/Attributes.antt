@@ -7,7 +7,8 @@ use Rattle.bgp_update.specs.declared.attributes.Attribute.{Attribute}
 use Rattle.bgp_update.specs.declared.attributes.Body.{Body}
 use Rattle.bgp_update.specs.declared.attributes.Body.TheVariants as bodies
 use Rattle.bgp_update.specs.declared.attributes.MpReach.{MpReach}
-use Rattle.bgp_update.specs.Nlris.{two, list_bytes, ListFits}
+use Rattle.wire_base.specs.Numbers.{two}
+use Rattle.bgp_update.specs.Nlris.{list_bytes, ListFits}
 
 -- AFI 31 and SAFI 9, the service function family
 abbrev pub family : List ℕ

@@ -1,17 +1,10 @@
 -- Routes of the service function family and their one spelling (after RFC 9015, section 3): a route type in 2 bytes, the
 -- length of a body in 2 bytes, the body.
-use Rattle.std.specs.Prelude.{◌≡◌, ◌≢◌, ℕ, ◌/◌, ◌%◌, ◌^◌, ◌<◌, List, [], ◌∷◌, ◌++◌, length}
+use Rattle.std.specs.Prelude.{◌≡◌, ◌≢◌, ℕ, ◌^◌, ◌<◌, List, ◌++◌, length}
 use Rattle.std.specs.List.{flat_map, AllByRecursion}
+use Rattle.wire_base.specs.Numbers.{two, three}
 use Rattle.bgp_update.specs.declared.routes.Nlri.{Nlri}
 use Rattle.bgp_update.specs.declared.routes.Nlri.TheVariants as routes
-
--- a number below 2^16 as its 2 bytes, the highest first
-abbrev pub two : ℕ → List ℕ
-two n = n / 256 ∷ n % 256 ∷ []
-
--- a number below 2^24 as its 3 bytes, the highest first
-abbrev pub three : ℕ → List ℕ
-three n = n / 65536 ∷ two (n % 65536)
 
 abbrev pub kind_of : Nlri → ℕ
 kind_of (routes.Sfir rd kind) = 1

@@ -1,6 +1,6 @@
 -- What is cut off the front of bytes: a route, and the head of kind 14.
 use Rattle.std.specs.Prelude.{◌≡◌, ℕ, ◌^◌, ◌<◌, List, ◌++◌, length}
-use Rattle.bgp_update.specs.Nlris.{two}
+use Rattle.wire_base.specs.Numbers.{two}
 use Rattle.bgp_update.specs.Refusals.{WrongSize}
 
 -- the bytes are a route's type, a length, a body, and what follows

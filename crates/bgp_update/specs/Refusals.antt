@@ -5,7 +5,8 @@ use Rattle.std.specs.Prelude.{◌≡◌, ◌≢◌, ℕ, ◌+◌, ◌*◌, ◌/�
 use Rattle.bgp_update.specs.declared.attributes.Attribute.{Attribute}
 use Rattle.bgp_update.specs.declared.routes.Nlri.{Nlri}
 use Rattle.wire_base.specs.declared.next_hops.NextHop.{NextHop}
-use Rattle.bgp_update.specs.Nlris.{two, list_bytes, ListFits}
+use Rattle.wire_base.specs.Numbers.{two}
+use Rattle.bgp_update.specs.Nlris.{list_bytes, ListFits}
 use Rattle.bgp_update.specs.Attributes.{family, hop_bytes, HopFits, size_bytes, size_limit, attributes_bytes, IsReachability}
 use Rattle.bgp_update.specs.Updates.{count_of, AttributesFit}
 

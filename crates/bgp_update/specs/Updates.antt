@@ -6,7 +6,7 @@ use Rattle.bgp_update.specs.declared.attributes.Attribute.{Attribute}
 use Rattle.bgp_update.specs.declared.attributes.Body.{Body}
 use Rattle.bgp_update.specs.declared.attributes.Body.TheVariants as bodies
 use Rattle.bgp_update.specs.declared.updates.Update.{Update}
-use Rattle.bgp_update.specs.Nlris.{two}
+use Rattle.wire_base.specs.Numbers.{two}
 use Rattle.bgp_update.specs.Attributes.{attributes_bytes, AttributeFits}
 
 -- how many attributes are of the kind

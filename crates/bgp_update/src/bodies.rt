@@ -4,12 +4,13 @@ ghost use Rattle.bgp_update.specs.Refusals.{header_size};
 ghost use Rattle.bgp_update.specs.Steps.{BodyGives};
 
 use crate::attributes::{Body, MpReach, MpUnreach};
-use crate::communities::{copy_of, has_communities, read_communities};
+use crate::communities::{has_communities, read_communities};
 use crate::faults::{UpdateFault, malformed};
 use crate::nlri_lists::read_list;
 use crate::pieces::{Piece, header_of};
 use crate::reach::{FAMILY_SIZE, behind_family, reach_head};
 use std::alloc::Global;
+use wire_base::Bytes;
 
 /// The kinds of attributes whose values are read: MP_REACH_NLRI, MP_UNREACH_NLRI (RFC 4760, sections 3 and 4) and
 /// EXTENDED COMMUNITIES (RFC 4360, section 2).
@@ -29,7 +30,7 @@ fn read_reach(alloc: Global, start: u64, piece: &Piece<'_>) -> Result<Body, Upda
         return Err(malformed(start));
     }
     let Some(behind) = behind_family(value) else {
-        return Ok(Body::Raw(copy_of(alloc, value)?));
+        return Ok(Body::Raw(Bytes::copy_of(alloc, value)?));
     };
     let Some(head) = reach_head(behind) else {
         return Err(malformed(start));
@@ -53,7 +54,7 @@ fn read_unreach(alloc: Global, start: u64, piece: &Piece<'_>) -> Result<Body, Up
         return Err(malformed(start));
     }
     let Some(list) = behind_family(value) else {
-        return Ok(Body::Raw(copy_of(alloc, value)?));
+        return Ok(Body::Raw(Bytes::copy_of(alloc, value)?));
     };
     let before = header_of(piece.flags) + 3;
     let nlri = read_list(alloc, start + before, list)?;
@@ -68,7 +69,7 @@ fn read_extended(alloc: Global, start: u64, piece: &Piece<'_>) -> Result<Body, U
         let communities = read_communities(alloc, piece.value)?;
         return Ok(Body::Communities(communities));
     }
-    Ok(Body::Raw(copy_of(alloc, piece.value)?))
+    Ok(Body::Raw(Bytes::copy_of(alloc, piece.value)?))
 }
 
 fn read_raw(alloc: Global, start: u64, piece: &Piece<'_>) -> Result<Body, UpdateFault>
@@ -76,7 +77,7 @@ fn read_raw(alloc: Global, start: u64, piece: &Piece<'_>) -> Result<Body, Update
     requires communities { piece.now.kind ≢ 16 }
     ensures { BodyGives start piece.now.flags piece.now.kind piece.now.value.now result }
 {
-    Ok(Body::Raw(copy_of(alloc, piece.value)?))
+    Ok(Body::Raw(Bytes::copy_of(alloc, piece.value)?))
 }
 
 /// The value of an attribute that stands at the place.

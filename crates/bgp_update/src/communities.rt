@@ -3,18 +3,10 @@ ghost use Rattle.bgp_update.specs.Attributes.{HasCommunities};
 ghost use Rattle.bgp_update.specs.Steps.{ReadsPieces};
 
 use std::alloc::Global;
-use wire_base::{Bytes, Fixed, List, OutOfMemory};
+use wire_base::{Fixed, List, OutOfMemory};
 
 /// The bytes of one extended community (RFC 4360, section 2).
 const COMMUNITY: usize = 8;
-
-pub(crate) fn copy_of(alloc: Global, bytes: &[u8]) -> Result<Bytes, OutOfMemory>
-    ensures { IfOk result (λ copy. copy ≡ bytes.now) }
-{
-    let mut copy = Bytes::new(alloc);
-    copy.push_all(bytes)?;
-    Ok(copy)
-}
 
 /// Whether an attribute of kind 16 holds communities: it is optional and transitive, and not empty, in pieces of 8 bytes.
 pub(crate) fn has_communities(flags: u8, value: &[u8]) -> bool

@@ -6,12 +6,11 @@ ghost use Rattle.bgp_update.specs.Steps.{AttributesGive, UpdateGives, Exact};
 
 use crate::attributes::Attribute;
 use crate::bodies::{MP_REACH, MP_UNREACH, read_body};
-use crate::communities::copy_of;
 use crate::faults::{UpdateFault, malformed};
 use crate::pieces::piece_of;
 use crate::updates::Update;
 use std::alloc::Global;
-use wire_base::{List, be_u16};
+use wire_base::{Bytes, List, be_u16};
 
 /// Whether attributes of this kind may come only once.
 fn is_reachability(kind: u8) -> bool
@@ -105,8 +104,8 @@ fn read_update(alloc: Global, body: &[u8]) -> Result<Update, UpdateFault>
     }
     let (attributes, nlri) = opening.rest.split_at(size);
     let attributes = read_attributes(alloc, 4 + before, attributes)?;
-    let withdrawn = copy_of(alloc, opening.withdrawn)?;
-    let nlri = copy_of(alloc, nlri)?;
+    let withdrawn = Bytes::copy_of(alloc, opening.withdrawn)?;
+    let nlri = Bytes::copy_of(alloc, nlri)?;
     Ok(Update {
         withdrawn,
         attributes,

@@ -1,11 +1,11 @@
 ghost use Rattle.std.specs.Prelude.{◌≡◌, ◌<◌, ◌∷◌, ◌++◌, length, OnOk, IfOk};
 ghost use Rattle.std.specs.List.{flat_map, AllByRecursion};
-ghost use Rattle.bgp_update.specs.Nlris.{two, three, nlri_bytes, list_bytes, NlriFits, ListFits};
+ghost use Rattle.wire_base.specs.Numbers.{two, three};
+ghost use Rattle.bgp_update.specs.Nlris.{nlri_bytes, list_bytes, NlriFits, ListFits};
 ghost use Rattle.bgp_update.specs.Attributes.{family, hop_bytes, reach_bytes, body_bytes, BodyFits, size_bytes, size_limit, attribute_bytes, attributes_bytes, AttributeFits};
 ghost use Rattle.bgp_update.specs.Updates.{UpdateFits, IsUpdate};
 
 use crate::attributes::{Attribute, Body, MpReach};
-use crate::communities::copy_of;
 use crate::pieces::is_long;
 use crate::routes::Nlri;
 use crate::updates::Update;
@@ -15,28 +15,12 @@ use wire_base::{Bytes, Fixed, List, NextHop, OutOfMemory, Spi};
 /// The bytes of AFI 31 and SAFI 9.
 const FAMILY: [u8; 3] = [0, 31, 9];
 
-/// A number as 2 bytes, the highest first.
-fn two_bytes(number: u16) -> [u8; 2]
-    ensures { result ≡ two number }
-{
-    [(number / 256) as u8, (number % 256) as u8]
-}
-
-/// A path number as 3 bytes, the highest first.
-fn spi_bytes(spi: &Spi) -> [u8; 3]
-    ensures { result ≡ three spi.now }
-{
-    let number = spi.number();
-    let low = number % 65536;
-    [(number / 65536) as u8, (low / 256) as u8, (low % 256) as u8]
-}
-
 fn put_sfir(out: &mut Bytes, rd: &Fixed<8>, kind: u16) -> Result<(), OutOfMemory>
     ensures { OnOk result (out.new ≡ out.old ++ (0 ∷ 1 ∷ 0 ∷ 10 ∷ rd.now ++ two kind)) }
 {
     out.push_all(&[0, 1, 0, 10])?;
     out.push_all(rd.bytes())?;
-    out.push_all(&two_bytes(kind))?;
+    out.push_u16(kind)?;
     Ok(())
 }
 
@@ -45,7 +29,7 @@ fn put_sfpr(out: &mut Bytes, rd: &Fixed<8>, spi: &Spi) -> Result<(), OutOfMemory
 {
     out.push_all(&[0, 2, 0, 11])?;
     out.push_all(rd.bytes())?;
-    out.push_all(&spi_bytes(spi))?;
+    out.push_u24(spi.number())?;
     Ok(())
 }
 
@@ -53,8 +37,8 @@ fn put_other(out: &mut Bytes, kind: u16, body: &[u8]) -> Result<(), OutOfMemory>
     requires { length body.now < 65536 }
     ensures { OnOk result (out.new ≡ out.old ++ (two kind ++ two (length body.now) ++ body.now)) }
 {
-    out.push_all(&two_bytes(kind))?;
-    out.push_all(&two_bytes(body.len() as u16))?;
+    out.push_u16(kind)?;
+    out.push_u16(body.len() as u16)?;
     out.push_all(body)?;
     Ok(())
 }
@@ -141,7 +125,7 @@ pub fn value_of(alloc: Global, attribute: &Attribute) -> Result<Bytes, OutOfMemo
         Body::Reach(reach) => reach_of(alloc, reach),
         Body::Unreach(unreach) => unreach_of(alloc, &unreach.nlri),
         Body::Communities(communities) => communities_of(alloc, communities.as_slice()),
-        Body::Raw(bytes) => copy_of(alloc, bytes.as_slice()),
+        Body::Raw(bytes) => Bytes::copy_of(alloc, bytes.as_slice()),
     }
 }
 
@@ -151,7 +135,7 @@ fn put_size(out: &mut Bytes, flags: u8, size: usize) -> Result<(), OutOfMemory>
     ensures { OnOk result (out.new ≡ out.old ++ size_bytes flags size) }
 {
     if is_long(flags) {
-        out.push_all(&two_bytes(size as u16))?;
+        out.push_u16(size as u16)?;
     } else {
         out.push_all(&[size as u8])?;
     }
@@ -192,9 +176,9 @@ pub fn encode_update(alloc: Global, update: &Update) -> Result<Bytes, OutOfMemor
     let attributes = attributes.as_slice();
     let withdrawn = update.withdrawn.as_slice();
     let mut out = Bytes::new(alloc);
-    out.push_all(&two_bytes(withdrawn.len() as u16))?;
+    out.push_u16(withdrawn.len() as u16)?;
     out.push_all(withdrawn)?;
-    out.push_all(&two_bytes(attributes.len() as u16))?;
+    out.push_u16(attributes.len() as u16)?;
     out.push_all(attributes)?;
     out.push_all(update.nlri.as_slice())?;
     Ok(out)

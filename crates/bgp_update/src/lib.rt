@@ -13,6 +13,7 @@
 //! - `decode_update` answers the value that the bytes spell (`IsUpdate`), or the first fault and its place (`Refused`).
 //! - `encode_update` writes the one spelling of an update, so each undoes the other.
 //! - `Update::broken` is that the first attribute of extended communities is none.
+//! - `Nlri::same` and `Nlri::copy` compare and copy a route.
 //! - Two readings of the same bytes are one (`one_reading`), and there always is one (`every_content_is_read_or_refused`).
 //!
 //! It looks into no attribute of another kind, gives no meaning to a route, and does no IO.
@@ -46,6 +47,3 @@ pub use laws::{every_content_is_read_or_refused, one_reading};
 pub use routes::Nlri;
 pub use updates::Update;
 pub use wire_base::NextHop;
-
-#[cfg(test)]
-mod tests;

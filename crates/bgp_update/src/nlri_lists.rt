@@ -3,11 +3,10 @@ ghost use Rattle.bgp_update.specs.Refusals.{ShortNlri, WrongSize, BadNlri};
 ghost use Rattle.bgp_update.specs.Pieces.{SplitsNlri, SplitsRoute};
 ghost use Rattle.bgp_update.specs.Steps.{ReadsNlri, ListGives};
 
-use crate::communities::copy_of;
 use crate::faults::{UpdateFault, malformed};
 use crate::routes::Nlri;
 use std::alloc::Global;
-use wire_base::{Fixed, List, OutOfMemory, Spi, be_u16, be_u24};
+use wire_base::{Bytes, Fixed, List, OutOfMemory, Spi, be_u16, be_u24};
 
 /// The route types that are read (after RFC 9015, section 3), and the lengths of their bodies.
 const SFIR: u16 = 1;
@@ -100,7 +99,7 @@ fn route_of(alloc: Global, kind: u16, body: &[u8]) -> Result<Nlri, OutOfMemory>
         SFPR => Ok(sfpr_of(body)),
         _ => Ok(Nlri::Other {
             kind,
-            body: copy_of(alloc, body)?,
+            body: Bytes::copy_of(alloc, body)?,
         }),
     }
 }

@@ -6,7 +6,7 @@ use Rattle.bgp_update.proofs.nlri_lists.sfir_of.Goals as goal
 
 pub returns : goal.returns
 returns c =
-    let found = rw c.unwrap.ensures at c.of.ensures in
+    let found = rw c.unwrap.ensures at c.of.ensures.value in
     record {
       kind_is = refl;
       body_is = sfir_spelled c.args.body.now c.unwrap.result c.be_u16-kind.result (λ i. omega (arith, c.type_inv.body i)) c.requires found.0

@@ -6,7 +6,7 @@ use Rattle.bgp_update.proofs.nlri_lists.sfpr_of.Goals as goal
 
 pub returns : goal.returns
 returns c =
-    let found = rw c.unwrap.ensures at c.of.ensures in
+    let found = rw c.unwrap.ensures at c.of.ensures.value in
     let spi = rw c.unwrap-2.ensures at c.of-2.ensures in
     record {
       kind_is = refl;
