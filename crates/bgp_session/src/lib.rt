@@ -15,8 +15,6 @@
 
 mod crossing;
 mod local_sides;
-#[cfg(test)]
-mod tests;
 
 pub use crossing::types_cross_threads;
 pub use local_sides::Local;
