@@ -13,10 +13,10 @@
 //! - `bgp_cases` has the same of BGP messages (RFC 4271, sections 4, 6.1 and 6.2).
 //! - `update_cases` has each refusal of the content of an UPDATE (RFC 4271, sections 4.3 and 6.3; RFC 4760), at its first
 //!   possible place and behind what is accepted, and contents that are accepted. A last possible place ends a content of
-//!   4,077 bytes: the crate's tests make those.
+//!   4,077 bytes: the program `conformance_rows` makes those.
 //!
-//! The expected answers are written by hand from the formats, and not taken from a decoder. The crate's own
-//! tests run each table through this project's decoders: whole, through a feed in every cutting into two pieces, and
+//! The expected answers are written by hand from the formats, and not taken from a decoder. `conformance_rows`
+//! runs each table through this project's decoders: whole, through a feed in every cutting into two pieces, and
 //! the contents of UPDATEs, which no feed reads, with every number of their last bytes missing.
 //!
 //! ```text
@@ -29,8 +29,6 @@
 mod bgp;
 mod cases;
 mod nsh;
-#[cfg(test)]
-mod tests;
 mod updates;
 
 pub use bgp::bgp_cases;
