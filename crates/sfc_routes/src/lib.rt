@@ -27,8 +27,6 @@ mod crossing;
 mod entries;
 mod rosters;
 mod searches;
-#[cfg(test)]
-mod tests;
 
 pub use crossing::types_cross_threads;
 pub use entries::{ForwarderEntry, InstanceEntry, Rd};
