@@ -1,0 +1,5 @@
+pub mod Paths
+pub mod Answers
+pub mod Changes
+pub mod Published
+pub mod Scripted
