@@ -30,15 +30,15 @@
 
 mod checksums;
 mod contents;
+mod crossing;
 mod edits;
 mod frames;
 mod laws;
 mod layouts;
-#[cfg(test)]
-mod tests;
 mod words;
 
 pub use contents::{Fields, Side};
+pub use crossing::types_cross_threads;
 pub use frames::{Frame, lower_hop_limit, pop_vlan, push_vlan, set_dscp, set_ipv4_address};
 pub use laws::{
     a_fold_adds_the_carries, a_tag_leaves_checksums_right, header_stays_right,

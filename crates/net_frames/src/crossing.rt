@@ -1,0 +1,11 @@
+use crate::contents::{Fields, Side};
+use crate::frames::Frame;
+
+fn crosses<T: Send + Sync + Drop>() {}
+
+/// Shows that the types of this crate may be handed to and shared with threads, as soon as it compiles.
+pub fn types_cross_threads() {
+    crosses::<Frame>();
+    crosses::<Fields>();
+    crosses::<Side>();
+}
