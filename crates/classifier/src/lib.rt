@@ -34,8 +34,6 @@ mod matching;
 mod prefixes;
 mod rule_lists;
 mod rules;
-#[cfg(test)]
-mod tests;
 mod verdicts;
 
 pub use crossing::types_cross_threads;
