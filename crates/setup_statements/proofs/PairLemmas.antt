@@ -9,7 +9,8 @@ use Rattle.text_words.specs.Reading.{Reads}
 use Rattle.text_words.proofs.NumberLemmas.{decimal-lacks}
 use Rattle.classifier.specs.Rules.{IsPrefix, IsPorts}
 use Rattle.classifier.specs.declared.rules.Prefix.{Prefix}
-use Rattle.setup_statements.specs.RuleText.{prefix_text, prefix_parts, ports_text, ports_parts}
+use Rattle.setup_statements.specs.RuleText.{prefix_text, ports_text}
+use Rattle.setup_statements.specs.Steps.{prefix_parts, ports_parts}
 use Rattle.setup_statements.proofs.TextLemmas.{address_all}
 
 abbrev Lacks : ℕ → List ℕ → Type 0

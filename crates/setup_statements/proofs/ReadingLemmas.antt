@@ -25,8 +25,9 @@ use Rattle.setup_statements.specs.declared.keywords.FunctionWord.TheVariants as 
 use Rattle.setup_statements.specs.declared.statements.Bound.{Bound}
 use Rattle.setup_statements.specs.declared.statements.Statement.{Statement}
 use Rattle.setup_statements.specs.declared.statements.Statement.TheVariants as statement
-use Rattle.setup_statements.specs.FunctionText.{IsFirewall, firewall_words, IsNat, nat_words, IsMeta, meta_words, IsStamp, stamp_words, told_words, IsFunctionOf}
-use Rattle.setup_statements.specs.RuleText.{IsPath, path_words, action_words}
+use Rattle.setup_statements.specs.FunctionText.{firewall_words, nat_words, meta_words, stamp_words, told_words}
+use Rattle.setup_statements.specs.RuleText.{path_words, action_words}
+use Rattle.setup_statements.specs.Steps.{IsFirewall, IsNat, IsMeta, IsStamp, IsFunctionOf, IsPath}
 use Rattle.setup_statements.specs.Statements.{octets_of, local_words, IsInstance, instance_words, keyword_of, Tells}
 use Rattle.setup_statements.proofs.StepLemmas.{head_is, tail_is}
 use Rattle.setup_statements.proofs.KeywordLemmas.{differ}

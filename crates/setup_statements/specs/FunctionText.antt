@@ -1,12 +1,11 @@
 -- The words of a function: its own word, and what it is told.
-use Rattle.std.specs.Prelude.{◌≡◌, ℕ, ◌≤◌, ◌<◌, ◌^◌, ◌==◌, true, if◌then◌else◌, List, [], ◌∷◌, codes}
+use Rattle.std.specs.Prelude.{ℕ, ◌==◌, if◌then◌else◌, List, [], ◌∷◌, codes}
 use Rattle.std.specs.Fmt.{decimal}
 use Rattle.net_frames.specs.declared.contents.Side.{Side}
 use Rattle.net_frames.specs.declared.contents.Side.TheVariants.{Source, Destination}
 use Rattle.arrayvec.specs.ArrayVec.{ArrayVec}
-use Rattle.text_words.specs.Hexadecimal.{IsOctets, IsUpToOctets, four_digits, octets_or_dash}
+use Rattle.text_words.specs.Hexadecimal.{four_digits, octets_or_dash}
 use Rattle.text_words.specs.Addresses.{dotted}
-use Rattle.service_functions.specs.Functions.{has_ports, IsFunction}
 use Rattle.service_functions.specs.declared.functions.Function.{Function}
 use Rattle.service_functions.specs.declared.functions.Function.TheVariants.{Pass, Firewall, Remark, Nat, HopLimit, PushVlan, PopVlan, Stamp, RequireMeta, ClearMeta}
 use Rattle.setup_statements.specs.declared.keywords.FunctionWord.{FunctionWord}
@@ -23,30 +22,18 @@ side_text Source = codes "source"
 side_text Destination = codes "destination"
 
 -- what a firewall is told: a protocol with ports, and the lowest and the highest port
-abbrev pub IsFirewall : ℕ × ℕ × ℕ → Type 0
-IsFirewall t = (has_ports t.0 ≡ true) × (t.1 ≤ t.2) × (t.2 ≤ 65535)
-
 abbrev pub firewall_words : ℕ × ℕ × ℕ → List (List ℕ)
 firewall_words t = port_protocol t.0 ∷ decimal t.1 ∷ decimal t.2 ∷ []
 
 -- what address translation is told: the side, the address there, and the one in its place
-abbrev pub IsNat : Side × List ℕ × List ℕ → Type 0
-IsNat t = IsOctets 4 t.1 × IsOctets 4 t.2
-
 abbrev pub nat_words : Side × List ℕ × List ℕ → List (List ℕ)
 nat_words t = side_text t.0 ∷ dotted t.1 ∷ dotted t.2 ∷ []
 
 -- a context item's class and type
-abbrev pub IsMeta : ℕ × ℕ → Type 0
-IsMeta t = (t.0 < 2 ^ 16) × (t.1 ≤ 255)
-
 abbrev pub meta_words : ℕ × ℕ → List (List ℕ)
 meta_words t = four_digits t.0 ∷ decimal t.1 ∷ []
 
 -- a whole context item: its class, its type and its body
-abbrev pub IsStamp : ℕ × ℕ × ArrayVec ℕ → Type 0
-IsStamp t = (t.0 < 2 ^ 16) × (t.1 ≤ 255) × IsUpToOctets 127 t.2.items
-
 abbrev pub stamp_words : ℕ × ℕ × ArrayVec ℕ → List (List ℕ)
 stamp_words t = four_digits t.0 ∷ decimal t.1 ∷ octets_or_dash t.2.items ∷ []
 
@@ -79,7 +66,3 @@ told_words ClearMeta = []
 -- all words of a function
 abbrev pub function_words : Function → List (List ℕ)
 function_words f = function_word_text (word_of f) ∷ told_words f
-
--- a function with this word, in its ranges
-abbrev pub IsFunctionOf : FunctionWord → Function → Type 0
-IsFunctionOf word f = (word_of f ≡ word) × IsFunction f

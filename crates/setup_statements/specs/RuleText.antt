@@ -6,7 +6,7 @@ use Rattle.nsh_metadata.specs.declared.contexts.Context.TheVariants.{Fixed16, It
 use Rattle.text_words.specs.Hexadecimal.{hexadecimal}
 use Rattle.text_words.specs.Addresses.{address_text}
 use Rattle.service_functions.specs.Functions.{has_ports}
-use Rattle.classifier.specs.Rules.{IsRule, IsAction}
+use Rattle.classifier.specs.Rules.{IsRule}
 use Rattle.classifier.specs.declared.rules.Prefix.{Prefix}
 use Rattle.classifier.specs.declared.rules.Rule.{Rule}
 use Rattle.classifier.specs.declared.rules.Action.{Action}
@@ -35,22 +35,12 @@ abbrev pub IsProtocolText : Option ℕ → List ℕ → Type 0
 IsProtocolText None word = word ≡ codes "*"
 IsProtocolText (Some p) word = (p ≤ 255) × ((word ≡ decimal p) ⊎ ((has_ports p ≡ true) × (word ≡ port_protocol p)))
 
--- the two parts of a network, and of a range of ports
-abbrev pub prefix_parts : Prefix → List (List ℕ)
-prefix_parts p = address_text p.address ∷ decimal p.bits ∷ []
-
-abbrev pub ports_parts : ℕ × ℕ → List (List ℕ)
-ports_parts p = decimal p.0 ∷ decimal p.1 ∷ []
-
 -- the context that a path begins with
 abbrev pub context_text : Context → List ℕ
 context_text (Fixed16 bytes) = codes "md1:" ++ hexadecimal bytes
 context_text (Items items) = codes "md2"
 
 -- a path's SPI, SI, TTL and context
-abbrev pub IsPath : ℕ × ℕ × ℕ × Context → Type 0
-IsPath p = IsAction (Path p.0 p.1 p.2 p.3)
-
 abbrev pub path_words : ℕ × ℕ × ℕ × Context → List (List ℕ)
 path_words p = decimal p.0 ∷ decimal p.1 ∷ decimal p.2 ∷ context_text p.3 ∷ []
 

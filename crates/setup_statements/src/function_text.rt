@@ -7,7 +7,8 @@ ghost use Rattle.text_words.specs.Numbers.{IsWithin};
 ghost use Rattle.text_words.specs.Hexadecimal.{IsOctets, four_digits};
 ghost use Rattle.text_words.specs.Addresses.{dotted};
 ghost use Rattle.service_functions.specs.Functions.{has_ports, IsFunction};
-ghost use Rattle.setup_statements.specs.FunctionText.{port_protocol, side_text, IsFirewall, firewall_words, IsNat, nat_words, IsMeta, meta_words, IsStamp, stamp_words, told_words, function_words, IsFunctionOf};
+ghost use Rattle.setup_statements.specs.FunctionText.{port_protocol, side_text, firewall_words, nat_words, meta_words, stamp_words, told_words, function_words};
+ghost use Rattle.setup_statements.specs.Steps.{IsFirewall, IsNat, IsMeta, IsStamp, IsFunctionOf};
 
 use crate::keywords::{FunctionWord, is_text};
 use arrayvec::ArrayVec;

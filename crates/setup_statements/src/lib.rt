@@ -33,8 +33,6 @@ mod printing;
 mod reading;
 mod rule_text;
 mod statements;
-#[cfg(test)]
-mod tests;
 
 pub use crossing::types_cross_threads;
 pub use keywords::Keyword;

@@ -5,7 +5,8 @@ ghost use Rattle.std.specs.Fmt.{decimal};
 ghost use Rattle.text_words.specs.Reading.{Reads, ReadsFirst};
 ghost use Rattle.classifier.specs.declared.rules.Rule.{Rule as OneRule};
 ghost use Rattle.classifier.specs.Rules.{FitsIfAsked, IsPrefix, IsPorts, IsAction, IsRuleContext, address_bits};
-ghost use Rattle.setup_statements.specs.RuleText.{star_or, prefix_text, prefix_parts, ports_text, ports_parts, IsProtocolText, context_text, IsPath, path_words, action_words, TellsRule};
+ghost use Rattle.setup_statements.specs.RuleText.{star_or, prefix_text, ports_text, IsProtocolText, context_text, path_words, action_words, TellsRule};
+ghost use Rattle.setup_statements.specs.Steps.{prefix_parts, ports_parts, IsPath};
 
 use crate::function_text::read_port_protocol;
 use crate::keywords::is_text;

@@ -2,7 +2,7 @@
 use Rattle.std.proofs.Common.{subst}
 use Rattle.text_words.specs.Reading.{Reads}
 use Rattle.classifier.specs.Rules.{IsPorts}
-use Rattle.setup_statements.specs.RuleText.{ports_parts}
+use Rattle.setup_statements.specs.Steps.{ports_parts}
 use Rattle.setup_statements.proofs.PairLemmas.{reads_ports}
 use Rattle.setup_statements.proofs.rule_text.read_ports.Goals as goal
 

@@ -2,7 +2,7 @@
 use Rattle.std.proofs.Common.{subst}
 use Rattle.text_words.specs.Reading.{Reads}
 use Rattle.classifier.specs.Rules.{IsPrefix}
-use Rattle.setup_statements.specs.RuleText.{prefix_parts}
+use Rattle.setup_statements.specs.Steps.{prefix_parts}
 use Rattle.setup_statements.proofs.PairLemmas.{reads_prefix}
 use Rattle.setup_statements.proofs.rule_text.read_prefix.Goals as goal
 
