@@ -13,7 +13,8 @@ use Rattle.setup_statements.specs.declared.statements.Statement.TheVariants.{Loc
 use Rattle.setup_statements.specs.Statements.{IsPeer, IsStatement, Tells}
 use Rattle.sfc_config.specs.declared.drafts.Draft.{Draft}
 use Rattle.sfc_config.specs.Parts.{FitsMode}
-use Rattle.sfc_config.specs.Drafts.{nothing, Fits, Adds, IsDraft}
+use Rattle.sfc_config.specs.Drafts.{nothing, Fits, Adds}
+use Rattle.sfc_config.specs.Steps.{IsDraft}
 use Rattle.sfc_config.specs.Texts.{Takes, Runs}
 
 weaker : {X : Type 0} (P Q : X → Type 0) → ((x : X) → P x → Q x) → (o : Option X) → FitsIfAsked P o → FitsIfAsked Q o

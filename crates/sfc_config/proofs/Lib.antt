@@ -2,5 +2,6 @@ pub mod PlacingLemmas
 pub mod KeepingLemmas
 pub mod RunLemmas
 pub mod LawLemmas
+pub mod ReadingLemmas
 pub mod PrintLemmas
 pub mod SaidLemmas

@@ -11,7 +11,8 @@ use Rattle.sfc_config.specs.declared.faults.SetupReason.{SetupReason}
 use Rattle.sfc_config.specs.declared.faults.SetupReason.TheVariants.{Byte, Word, Shape}
 use Rattle.sfc_config.specs.declared.faults.LineFault.{LineFault}
 use Rattle.sfc_config.specs.declared.faults.LineFault.TheVariants as line_fault
-use Rattle.sfc_config.specs.Texts.{IsSaid, Clashes, Refuses, Placed, Taken}
+use Rattle.sfc_config.specs.Texts.{IsSaid, Clashes, Refuses}
+use Rattle.sfc_config.specs.Steps.{Placed, Taken}
 
 -- where an element has a property, not all lack it
 pub at_not : {X : Type 0} (P : X → Type 0) (xs : List X) (i : ℕ) → IsAt P xs i → All (λ x. P x → ⊥) xs → ⊥

@@ -10,10 +10,11 @@ use Rattle.sfc_config.specs.declared.faults.SetupFault.{SetupFault}
 use Rattle.sfc_config.specs.declared.faults.SetupFault.TheVariants.{Line, OutOfMemory}
 use Rattle.sfc_config.specs.declared.faults.SetupReason.TheVariants.{Missing}
 use Rattle.sfc_config.specs.Parts.{Parts}
-use Rattle.sfc_config.specs.Drafts.{nothing, IsDraft}
+use Rattle.sfc_config.specs.Drafts.{nothing}
+use Rattle.sfc_config.specs.Steps.{IsDraft, Taken, fault_at, Finished}
 use Rattle.sfc_config.specs.declared.faults.LineFault.{LineFault}
 use Rattle.sfc_config.specs.declared.faults.LineFault.TheVariants as line_fault
-use Rattle.sfc_config.specs.Texts.{Takes, Taken, fault_at, Runs, Refuses, IsRefused, Finished, Parses}
+use Rattle.sfc_config.specs.Texts.{Takes, Runs, Refuses, IsRefused, Parses}
 use Rattle.sfc_config.proofs.KeepingLemmas.{runs_kept, nothing_kept}
 
 -- one more line

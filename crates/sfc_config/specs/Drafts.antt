@@ -1,13 +1,7 @@
 -- What a text has said so far, and what a further statement adds to it.
-use Rattle.std.specs.Prelude.{◌≡◌, ◌≢◌, ℕ, ◌<◌, ◌≤◌, [], ◌∷◌, ◌++◌, length, All, Some, None}
+use Rattle.std.specs.Prelude.{◌≡◌, ◌≢◌, ℕ, ◌<◌, [], ◌∷◌, ◌++◌, length, All, Some, None}
 use Rattle.wire_base.specs.declared.ids.ForwarderId.{ForwarderId}
-use Rattle.std.specs.List.{AllPairs}
-use Rattle.text_words.specs.Numbers.{IsWithin}
-use Rattle.bgp_session.specs.LocalSide.{IsLocal}
-use Rattle.service_functions.specs.Functions.{IsFunction}
-use Rattle.classifier.specs.Rules.{FitsIfAsked}
 use Rattle.sfc_routes.specs.Entries.{IsAt, Serves, with_forwarder, with_instance, with_target}
-use Rattle.setup_statements.specs.Statements.{IsPeer}
 use Rattle.setup_statements.specs.declared.statements.Statement.{Statement}
 use Rattle.setup_statements.specs.declared.statements.Statement.TheVariants.{Local, Target, Peer, Forwarder, Ingress, Instance, Rule}
 use Rattle.sfc_config.specs.declared.drafts.Draft.{Draft}
@@ -69,15 +63,3 @@ Adds d (Forwarder f) e = e ≡ record d { roster = with_forwarder d.roster f.nam
 Adds d (Ingress name) e = (id : ForwarderId) × IsAt (λ f. f.name ≡ name) d.roster.forwarders id.0 × (e ≡ record d { ingress = Some id })
 Adds d (Instance i b) e = e ≡ record d { roster = with_instance d.roster i.name i.rd i.kind; instances = d.instances ++ b ∷ [] }
 Adds d (Rule r) e = e ≡ record d { rules = d.rules ++ r ∷ [] }
-
--- what every draft keeps that a text has said
-pub record IsDraft (d : Draft) : Type 0 where
-  pub local_fits : FitsIfAsked IsLocal d.local
-  pub peers_fit : All IsPeer d.peers
-  pub few_peers : length d.peers ≤ 16
-  pub peers_differ : AllPairs (λ q r. q.0 ≢ r.0) d.peers
-  pub kinds_fit : All (λ i. IsWithin 32 65535 i.kind) d.roster.instances
-  pub ingress_known : FitsIfAsked (λ id. id.0 < length d.roster.forwarders) d.ingress
-  pub all_bound : length d.instances ≡ length d.roster.instances
-  pub functions_fit : All (λ b. IsFunction b.function) d.instances
-  pub modes_fit : All FitsMode d.instances

@@ -1,4 +1,5 @@
 pub mod Parts
 pub mod Drafts
 pub mod Texts
+pub mod Steps
 pub mod Printed

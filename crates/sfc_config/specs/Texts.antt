@@ -12,8 +12,6 @@ use Rattle.sfc_config.specs.declared.faults.SetupReason.{SetupReason}
 use Rattle.sfc_config.specs.declared.faults.SetupReason.TheVariants.{Byte, Word, Shape, Count, Name, Twice, Mode, Missing}
 use Rattle.sfc_config.specs.declared.faults.SetupFault.{SetupFault}
 use Rattle.sfc_config.specs.declared.faults.SetupFault.TheVariants.{Line, OutOfMemory}
-use Rattle.sfc_config.specs.declared.faults.LineFault.{LineFault}
-use Rattle.sfc_config.specs.declared.faults.LineFault.TheVariants as line_fault
 use Rattle.sfc_config.specs.Parts.{Parts}
 use Rattle.sfc_config.specs.Drafts.{nothing, HasRoom, IsKnown, IsNew, IsServable, Fits, Adds}
 
@@ -127,37 +125,12 @@ pub record EndRefused (text : List ℕ) (n : ℕ) (reason : SetupReason) : Type 
 abbrev pub IsRefused : List ℕ → ℕ → SetupReason → Type 0
 IsRefused text n reason = LineRefused text n reason ⊎ EndRefused text n reason
 
--- what taking a line into a draft answers
-abbrev pub Taken : Draft → List ℕ → Result (Unit {0}) LineFault → Draft → Type 0
-Taken d line (Ok u) e = Takes d line e
-Taken d line (Err (line_fault.Reason reason)) e = Refuses d line reason
-Taken d line (Err line_fault.OutOfMemory) e = Unit {0}
-
--- the fault of a text whose line with this number is not taken
-abbrev pub fault_at : ℕ → LineFault → SetupFault
-fault_at n (line_fault.Reason reason) = Line n reason
-fault_at n line_fault.OutOfMemory = OutOfMemory
-
--- what taking a statement into a draft answers
-abbrev pub Placed : Draft → Statement → Result (Unit {0}) LineFault → Draft → Type 0
-Placed d s (Ok u) e = Fits d s × Adds d s e
-Placed d s (Err (line_fault.Reason reason)) e = Clashes d s reason
-Placed d s (Err line_fault.OutOfMemory) e = Unit {0}
-
--- what reading a line answers
-abbrev pub LineRead : List ℕ → Result Statement SetupReason → Type 0
-LineRead line (Ok s) = Spells (words_of line) s
-LineRead line (Err Word) = Begins line → ⊥
-LineRead line (Err Shape) = Begins line × ((s : Statement) → Spells (words_of line) s → ⊥)
-LineRead line (Err _) = ⊥
-
--- what the end of a text answers
-abbrev pub Finished : Draft → Result Parts SetupFault → Type 0
-Finished d (Ok p) = Ends d p
-Finished d (Err fault) = (fault ≡ Line 0 Missing) × (IsWhole d → ⊥)
-
 -- what parsing answers: the setup that the text spells, or its first refusal
 abbrev pub Parses : List ℕ → Result Parts SetupFault → Type 0
 Parses text (Ok p) = IsSetup text p
 Parses text (Err (Line n reason)) = IsRefused text n reason
 Parses text (Err OutOfMemory) = Unit {0}
+
+-- the text spells a setup, or is refused at a line for a reason
+abbrev pub HasReading : List ℕ → Type 0
+HasReading text = ((p : Parts) × IsSetup text p) ⊎ ((n : ℕ) × (reason : SetupReason) × IsRefused text n reason)

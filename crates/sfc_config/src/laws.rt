@@ -5,7 +5,10 @@ ghost use Rattle.sfc_config.specs.Parts.{Parts};
 ghost use Rattle.sfc_config.specs.declared.faults.SetupReason.{SetupReason as Reason};
 ghost use Rattle.sfc_config.specs.declared.faults.SetupFault.{SetupFault as Fault};
 ghost use Rattle.sfc_config.specs.declared.faults.SetupFault.TheVariants as fault;
-ghost use Rattle.sfc_config.specs.Texts.{IsSetup, IsRefused, Parses};
+ghost use Rattle.sfc_config.specs.Texts.{IsSetup, IsRefused, Parses, HasReading};
+
+use crate::parsing::read_line;
+use text_words::TextLines;
 
 /// A text spells at most one setup, is refused at most at one line and for one reason, and never both.
 pub fn a_text_has_one_reading()
@@ -21,3 +24,16 @@ pub fn parsing_is_exact()
     ensures refusal { (text : List ℕ) (n : ℕ) (r : Reason) (answer : Result Parts Fault) → IsRefused text n r → Parses text answer
         → (answer ≡ Err (fault.Line n r)) ⊎ (answer ≡ Err fault.OutOfMemory) }
 {}
+
+/// Every text spells a setup, or is refused at one line for one reason. Want of memory is free in `parse_setup`, so it
+/// does not say this.
+///
+/// Of each line it is tried what its words say, which takes no memory. Nothing calls this.
+pub fn every_text_has_a_reading(text: &[u8])
+    ensures { HasReading text.now }
+{
+    let mut lines = TextLines::of(text);
+    'lines: while let Some(line) = lines.next() {
+        let _ = read_line(line);
+    }
+}

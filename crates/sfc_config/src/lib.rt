@@ -14,7 +14,8 @@
 //!
 //! - `parse_setup` gives the setup that a text spells, or its first refusal (`Parses`).
 //! - `print_setup` gives a text that spells the setup, its statements in one order (`IsPrinted`).
-//! - A text has one reading (`a_text_has_one_reading`), so parsing a printed setup gives it again (`parsing_is_exact`).
+//! - A text has one reading (`every_text_has_a_reading`, `a_text_has_one_reading`), so parsing a printed setup gives it
+//!   again (`parsing_is_exact`).
 //!
 //! A setup keeps `AreParts`. docs/SETUP.md has the text for operators. It does no IO, and a name is found by a search
 //! over all names.
@@ -34,12 +35,10 @@ mod parsing;
 mod placing;
 mod printing;
 mod setups;
-#[cfg(test)]
-mod tests;
 
 pub use crossing::types_cross_threads;
 pub use faults::{SetupFault, SetupReason};
-pub use laws::{a_text_has_one_reading, parsing_is_exact};
+pub use laws::{a_text_has_one_reading, every_text_has_a_reading, parsing_is_exact};
 pub use parsing::parse_setup;
 pub use printing::print_setup;
 pub use setup_statements::Bound;

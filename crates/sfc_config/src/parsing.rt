@@ -1,8 +1,8 @@
 //! A setup from its text.
 
 ghost use Rattle.std.specs.Prelude.{◌≡◌, ◌↔◌, IsTrue};
-ghost use Rattle.sfc_config.specs.Texts.{IsPrintable, is_skipped as is_skipped_line, is_text_byte as text_byte_of, Taken, LineRead, Finished, Parses, fault_at as fault_of_line};
-ghost use Rattle.sfc_config.specs.Drafts.{IsDraft};
+ghost use Rattle.sfc_config.specs.Texts.{IsPrintable, is_skipped as is_skipped_line, is_text_byte as text_byte_of, Parses};
+ghost use Rattle.sfc_config.specs.Steps.{IsDraft, Taken, LineRead, Finished, fault_at as fault_of_line};
 
 use crate::drafts::Draft;
 use crate::faults::{LineFault, SetupFault, SetupReason};
@@ -37,7 +37,7 @@ fn is_skipped(line: &[u8]) -> bool
 }
 
 /// Reads the statement of a line; else its words begin none, or do not fit the one that they begin.
-fn read_line(line: &[u8]) -> Result<Statement, SetupReason>
+pub(crate) fn read_line(line: &[u8]) -> Result<Statement, SetupReason>
     ensures { LineRead line.now result }
 {
     let mut words = Pieces::of(line, b' ');

@@ -7,7 +7,7 @@ ghost use Rattle.setup_statements.specs.declared.statements.Statement.TheVariant
 ghost use Rattle.setup_statements.specs.Statements.{IsStatement};
 ghost use Rattle.sfc_config.specs.Parts.{FitsMode};
 ghost use Rattle.sfc_config.specs.Drafts.{HasRoom, IsNew};
-ghost use Rattle.sfc_config.specs.Texts.{Placed};
+ghost use Rattle.sfc_config.specs.Steps.{Placed};
 
 use crate::drafts::Draft;
 use crate::faults::{LineFault, SetupReason};
