@@ -1,7 +1,6 @@
 -- A head is its numbers' cells, one after the other.
 use Rattle.std.proofs.Common.{◌≡◌, ℕ, List, [], ◌∷◌, ◌++◌, length, true, false, refl, ap, ◌∙◌, slice_index_or}
 use Rattle.pcap_io.specs.declared.forms.Form.{Form}
-use Rattle.pcap_io.specs.declared.frames.TheConstants.{MAX_CAPTURED}
 use Rattle.pcap_io.specs.Heads.{file_head, half, magic_of, packet_head_of, word}
 
 -- the first two and the first four cells of a list
@@ -38,7 +37,7 @@ four_words form a b c d =
     joined (joined (joined (cells_4-word form a) (cells_4-word form b)) (cells_4-word form c)) (cells_4-word form d)
 
 -- the cells of a file head's numbers, with its magic m, are those numbers
-pub head_words : (form : Form) (m : ℕ) → m ≡ magic_of form → cells_4 (word form m) ++ (cells_2 (half form 2) ++ cells_2 (half form 4)) ++ cells_4 (word form 0) ++ cells_4 (word form 0) ++ cells_4 (word form MAX_CAPTURED) ++ cells_4 (word form 1) ≡ file_head form
+pub head_words : (form : Form) (m : ℕ) → m ≡ magic_of form → cells_4 (word form m) ++ (cells_2 (half form 2) ++ cells_2 (half form 4)) ++ cells_4 (word form 0) ++ cells_4 (word form 0) ++ cells_4 (word form 262144) ++ cells_4 (word form 1) ≡ file_head form
 head_words form m is_magic =
     joined
     (joined
@@ -47,5 +46,5 @@ head_words form m is_magic =
     (joined (cells_4-word form m ∙ ap (word form) is_magic) (joined (cells_2-half form 2) (cells_2-half form 4)))
     (cells_4-word form 0))
     (cells_4-word form 0))
-    (cells_4-word form MAX_CAPTURED))
+    (cells_4-word form 262144))
     (cells_4-word form 1)

@@ -1,9 +1,8 @@
 -- Which bytes are a capture of which frames (libpcap's file format, version 2.4).
-use Rattle.std.specs.Prelude.{◌≡◌, ◌≤◌, ℕ, List, ◌++◌, length, take, drop, false}
+use Rattle.std.specs.Prelude.{◌≡◌, ◌≤◌, ℕ, List, ◌++◌, length, take, drop}
 use Rattle.std.specs.List.{AllByRecursion, flat_map}
 use Rattle.pcap_io.specs.declared.forms.Form.{Form}
 use Rattle.pcap_io.specs.declared.frames.Captured.{Captured}
-use Rattle.pcap_io.specs.declared.frames.TheConstants.{MAX_CAPTURED, MAX_ORIGINAL}
 use Rattle.pcap_io.specs.Heads.{link_of, magic_of, packet_head_of, version_of, word}
 
 -- a frame as it stands in a file: its times, both lengths, its bytes
@@ -19,9 +18,9 @@ packets form frames = flat_map (packet form) frames
 pub record IsWithinLimits (frame : Captured) : Type 0 where
   pub seconds : frame.seconds ≤ 4294967295
   pub fraction : frame.fraction ≤ 4294967295
-  pub captured : length frame.bytes ≤ MAX_CAPTURED
+  pub captured : length frame.bytes ≤ 262144
   pub whole : length frame.bytes ≤ frame.original
-  pub original : frame.original ≤ MAX_ORIGINAL
+  pub original : frame.original ≤ 2147483647
 
 -- 24 bytes that tell a form: its magic, version 2.4, Ethernet; zone, accuracy and snapshot length are free
 pub record IsFileHead (form : Form) (head : List ℕ) : Type 0 where
@@ -36,7 +35,3 @@ pub record IsCapture (bytes : List ℕ) (form : Form) (frames : List Captured) :
   pub is_head : IsFileHead form head
   pub within : AllByRecursion IsWithinLimits frames
   pub all : bytes ≡ head ++ packets form frames
-
--- microseconds, the lowest byte first: the one form that `read_plain` reads
-abbrev pub plain_form : Form
-plain_form = record { nano = false; big = false }

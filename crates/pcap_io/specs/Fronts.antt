@@ -1,11 +1,10 @@
 -- What stands at the front of the bytes behind a file header.
 use Rattle.std.specs.Prelude.{◌≡◌, ◌<◌, ◌^◌, ℕ, List, ◌++◌}
-use Rattle.std.specs.List.{AllByRecursion}
 use Rattle.pcap_io.specs.declared.forms.Form.{Form}
 use Rattle.pcap_io.specs.declared.frames.Captured.{Captured}
-use Rattle.pcap_io.specs.declared.plain.PacketHead.{PacketHead}
+use Rattle.pcap_io.specs.declared.frames.PacketHead.{PacketHead}
 use Rattle.pcap_io.specs.Heads.{packet_head_of}
-use Rattle.pcap_io.specs.Captures.{IsWithinLimits, packet, packets}
+use Rattle.pcap_io.specs.Captures.{IsWithinLimits, packet}
 
 -- the head's four numbers are these bytes
 abbrev pub packet_head_is : Form → PacketHead → List ℕ → Type 0
@@ -28,8 +27,3 @@ frame_of head body =
 pub record BeginsWith (form : Form) (bytes : List ℕ) (head : PacketHead) (body rest : List ℕ) : Type 0 where
   pub within : IsWithinLimits (frame_of head body)
   pub all : bytes ≡ packet form (frame_of head body) ++ rest
-
--- the bytes are these frames and no more
-pub record IsCaptureAfter (form : Form) (bytes : List ℕ) (frames : List Captured) : Type 0 where
-  pub within : AllByRecursion IsWithinLimits frames
-  pub all : bytes ≡ packets form frames

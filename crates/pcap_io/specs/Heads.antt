@@ -3,7 +3,6 @@
 use Rattle.std.specs.Prelude.{ℕ, List, ◌++◌, if◌then◌else◌}
 use Rattle.std.specs.Int.{to_be_bytes, to_le_bytes, w16, w32}
 use Rattle.pcap_io.specs.declared.forms.Form.{Form}
-use Rattle.pcap_io.specs.declared.frames.TheConstants.{MAX_CAPTURED}
 
 -- a number in 4 bytes, in the file's order
 unfoldable pub word : Form → ℕ → List ℕ
@@ -28,7 +27,7 @@ link_of form = word form 1
 -- the head that is written: zone and accuracy 0, and the greatest number of captured bytes
 abbrev pub file_head : Form → List ℕ
 file_head form =
-    word form (magic_of form) ++ version_of form ++ word form 0 ++ word form 0 ++ word form MAX_CAPTURED ++ link_of form
+    word form (magic_of form) ++ version_of form ++ word form 0 ++ word form 0 ++ word form 262144 ++ link_of form
 
 -- the head of a frame with these times and lengths
 abbrev pub packet_head_of : Form → ℕ → ℕ → ℕ → ℕ → List ℕ

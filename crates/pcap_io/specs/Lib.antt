@@ -1,3 +1,11 @@
+pub mod Heads
 pub mod Captures
 pub mod Fronts
-pub mod Heads
+pub mod Refusals
+pub mod Kept
+pub mod Steps
+pub mod Calls
+pub mod Streams
+pub mod Lending
+pub mod Reads
+pub mod Egress

@@ -23,20 +23,6 @@ pub fn word_at(form: Form, bytes: &[u8]) -> u32
     }
 }
 
-/// The number that the first 2 bytes spell in the file's order.
-#[tactic(auto, unfolding(crate::specs::Heads::half))]
-pub fn half_at(form: Form, bytes: &[u8]) -> u16
-    requires { 2 ≤ length bytes.now }
-    ensures { half form result ≡ take 2 bytes.now }
-{
-    let cells = [bytes[0], bytes[1]];
-    if form.big {
-        u16::from_be_bytes(cells)
-    } else {
-        u16::from_le_bytes(cells)
-    }
-}
-
 /// The 4 bytes of a number in the file's order.
 #[tactic(auto, unfolding(crate::specs::Heads::word))]
 pub fn word_bytes(form: Form, number: u32) -> [u8; 4]

@@ -17,3 +17,12 @@ pub struct Captured {
     pub original: u32,
     pub bytes: Bytes,
 }
+
+/// The four numbers before a frame's bytes, of which there are `captured`.
+#[derive(Clone, Copy, Debug, PartialEq, Eq)]
+pub struct PacketHead {
+    pub seconds: u32,
+    pub fraction: u32,
+    pub captured: u32,
+    pub original: u32,
+}

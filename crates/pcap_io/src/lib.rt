@@ -10,31 +10,41 @@
 //!
 //! What the layer above uses:
 //!
-//! - `read_plain` answers the frames of which the bytes are a capture (`IsCapture`), and refuses
-//!   bytes that are none of the one form that is read so far.
+//! - `CaptureFeed` takes a file in pieces and gives its frames, in any of the four forms: `push` and `next` for frames with
+//!   bytes of their own, or `make_room`, `room`, `filled`, `next_packet` and `packet` for frames that are lent out of the room
+//!   that they were read into. What it took and gave is its history (`Stands`); at the end `finish` tells whether that is all.
+//! - `Reads` is what a reader of some bytes gets: the form, the whole frames, and where and why there are no more. Bytes have
+//!   one reading (`one_reading`, `every_list_of_bytes_is_read`), and those that are read to their end are the captures
+//!   (`a_whole_reading_is_a_capture`).
 //! - `capture_head` and `packet_head` answer the bytes that stand before the frames and before each
-//!   frame (`file_head`, `packet_head`), in any of the four forms.
-//! - Bytes are a capture of one list of frames at most (`a_capture_has_one_reading`).
+//!   frame (`file_head`, `packet_head_of`), in any of the four forms; `egress_of` is the file of the frames that leave.
 //!
 //! It does no IO.
 //!
 //! ```text
-//! let frames = read_plain(alloc, bytes)?;
-//! let first = &frames.as_slice()[0];
-//! let head = packet_head(form, first.seconds, first.fraction, captured, first.original);
+//! let mut feed = CaptureFeed::new(alloc);
+//! feed.push(piece)?;
+//! while let Some(frame) = feed.next()? { .. }
+//! feed.finish()?;
 //! ```
 #![tactic(auto)]
 
+mod crossing;
+mod feeds;
 mod forms;
 mod frames;
 mod heads;
 mod laws;
-mod plain;
-#[cfg(test)]
-mod tests;
+mod reasons;
+mod steps;
 
+pub use crossing::types_cross_threads;
+pub use feeds::CaptureFeed;
 pub use forms::Form;
-pub use frames::{Captured, MAX_CAPTURED, MAX_ORIGINAL};
+pub use frames::{Captured, MAX_CAPTURED, MAX_ORIGINAL, PacketHead};
 pub use heads::{capture_head, packet_head};
-pub use laws::a_capture_has_one_reading;
-pub use plain::{PlainFault, read_plain};
+pub use laws::{
+    a_capture_has_one_reading, a_whole_reading_is_a_capture, every_list_of_bytes_is_read,
+    one_reading,
+};
+pub use reasons::{CaptureFault, CaptureReason, Refusal};
