@@ -1,10 +1,9 @@
 -- A stream is shown by one text.
-use Rattle.std.proofs.Common.{◌≡◌, ℕ, ◌+◌, List, [], ◌∷◌, ◌++◌, length, refl, sym, ap, subst, ◌∙◌}
+use Rattle.std.proofs.Common.{◌≡◌, ℕ, ◌+◌, List, [], ◌++◌, length, sym, ap, subst, ◌∙◌}
 use Rattle.bgp_messages.specs.declared.messages.Message.{Message}
 use Rattle.bgp_messages.specs.declared.messages.Message.TheVariants as messages
 use Rattle.bgp_messages.specs.Messages.{spelling, Fits}
 use Rattle.bgp_messages.specs.Refusals.{Told}
-use Rattle.bgp_update.specs.declared.updates.Update.{Update}
 use Rattle.bgp_update.specs.Refusals.{Refused as RefusedUpdate}
 use Rattle.bgp_messages.proofs.MessageReadings as stream
 use Rattle.bgp_update.proofs.UpdateReadings as update
@@ -57,3 +56,18 @@ one_text place bytes s t (rest _ _ _ held is) (message _ m _ more shown later _ 
 one_text place bytes s t (rest _ _ _ held is) (bad_update _ body _ more _ inside fb eb rb is') = absurd (held.unfinished (messages.Update body) more fb eb)
 one_text place bytes s t (rest _ _ _ held is) (refusal _ _ _ told r is') = absurd (held.accepted told r)
 one_text place bytes s t (rest _ _ _ held is) (rest _ _ _ held' is') = is ∙ sym is'
+
+-- what shows a stream that begins with a message that is shown so is these lines, and then what shows the rest
+pub behind_message : (place : ℕ) (m : Message) (bytes more shown text : List ℕ) → Fits m → bytes ≡ spelling m ++ more → ShowsMessage m shown → ShowsFrom place bytes text
+    → (later : List ℕ) × (text ≡ shown ++ later) × ShowsFrom (place + length (spelling m)) more later
+behind_message place m bytes more shown text fm em sm (message _ n _ more' shown' later _ fn en sn ln is) =
+    let one = stream.one_message m n more more' fm fn (sym em ∙ en) in
+    let shown_is : shown ≡ shown' = one_shown n shown shown' (subst (λ (x : Message). ShowsMessage x shown) one.0 sm) sn in (
+      later,
+      is ∙ ap (λ (l : List ℕ). l ++ later) (sym shown_is),
+      subst (λ (x : Message). ShowsFrom (place + length (spelling x)) more later) (sym one.0) (subst (λ (l : List ℕ). ShowsFrom (place + length (spelling n)) l later) (sym one.1) ln),
+    )
+behind_message place m bytes more shown text fm em sm (bad_update _ body _ more' _ inside fb eb rb is) =
+    absurd (shown_and_refused m body shown inside (stream.one_message m (messages.Update body) more more' fm fb (sym em ∙ eb)).0 sm rb)
+behind_message place m bytes more shown text fm em sm (refusal _ _ _ told r is) = absurd (stream.never_both bytes told r m more fm em)
+behind_message place m bytes more shown text fm em sm (rest _ _ _ held is) = absurd (held.unfinished m more fm em)

@@ -1,3 +1,6 @@
 pub mod TextLemmas
 pub mod BgpLemmas
 pub mod BgpReadings
+pub mod ShowingLemmas
+pub mod NshReadings
+pub mod BgpTotal

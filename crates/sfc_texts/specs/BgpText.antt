@@ -6,7 +6,8 @@ use Rattle.bgp_messages.specs.declared.messages.Message.TheVariants as messages
 use Rattle.bgp_messages.specs.declared.notices.Notice.{Notice}
 use Rattle.bgp_messages.specs.declared.opens.Open.{Open}
 use Rattle.bgp_messages.specs.declared.opens.Capability.{Capability}
-use Rattle.bgp_messages.specs.Opens.{four, capabilities_of, peer_as_of}
+use Rattle.wire_base.specs.Numbers.{four}
+use Rattle.bgp_messages.specs.Opens.{capabilities_of, peer_as_of}
 use Rattle.bgp_messages.specs.Messages.{spelling, Fits}
 use Rattle.bgp_messages.specs.Refusals.{Told, Held, Refused as RefusedMessage}
 use Rattle.bgp_update.specs.declared.attributes.Attribute.{Attribute}
@@ -15,7 +16,7 @@ use Rattle.bgp_update.specs.Attributes.{body_bytes}
 use Rattle.bgp_update.specs.Updates.{IsUpdate}
 use Rattle.bgp_update.specs.Refusals.{Refused as RefusedUpdate}
 use Rattle.text_words.specs.Addresses.{dotted}
-use Rattle.text_words.specs.Hexadecimal.{hexadecimal, octets_or_dash}
+use Rattle.text_words.specs.Hexadecimal.{hexadecimal}
 use Rattle.sfc_texts.specs.NshText.{field, line_end, octets_field}
 
 -- ---- OPEN

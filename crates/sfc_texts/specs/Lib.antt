@@ -1,3 +1,4 @@
 pub mod NshText
 pub mod BgpText
 pub mod BgpSteps
+pub mod Showings

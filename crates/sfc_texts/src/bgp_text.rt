@@ -1,6 +1,6 @@
 //! The lines that show a stream of BGP messages.
 
-ghost use Rattle.std.specs.Prelude.{◌≡◌, ◌≤◌, ◌<◌, ◌+◌, ◌^◌, ◌++◌, [], length, codes, None, OnOk, IfOk};
+ghost use Rattle.std.specs.Prelude.{◌≡◌, ◌≤◌, ◌<◌, ◌+◌, ◌^◌, ◌++◌, length, codes, None, OnOk, IfOk};
 ghost use Rattle.std.specs.List.{flat_map, AllByRecursion};
 ghost use Rattle.bgp_messages.specs.Opens.{capabilities_of};
 ghost use Rattle.bgp_messages.specs.Messages.{content};
@@ -8,12 +8,12 @@ ghost use Rattle.bgp_update.specs.Attributes.{body_bytes, AttributeFits};
 ghost use Rattle.bgp_update.specs.Updates.{UpdateFits};
 ghost use Rattle.text_words.specs.Hexadecimal.{hexadecimal, octets_or_dash};
 ghost use Rattle.sfc_texts.specs.NshText.{field, line_end, octets_field};
-ghost use Rattle.sfc_texts.specs.BgpText.{capability_text, further_capability, capabilities_text, identifier_text, open_line, keep_alive_line, notification_line, attribute_name, attribute_line, update_lines, refused_line, rest_line, ShowsBgp};
+ghost use Rattle.sfc_texts.specs.BgpText.{capability_text, further_capability, capabilities_text, identifier_text, open_line, keep_alive_line, notification_line, attribute_name, attribute_line, update_lines, refused_line, rest_line};
 ghost use Rattle.sfc_texts.specs.BgpSteps.{UpdateShown, MessageShown, NextShown};
 
-use crate::nsh_text::print_field;
+use crate::nsh_text::{print_field, print_octets_field};
 use bgp_messages::{BgpFeed, Capability, Message, NextFault, Notice, Open, Param};
-use bgp_update::{Attribute, Update, UpdateFault, decode_update, value_of};
+use bgp_update::{Attribute, Body, Update, UpdateFault, decode_update, value_of};
 use std::alloc::Global;
 use text_words::{print_dotted, print_number, print_octets};
 use wire_base::{Bytes, Fixed, OutOfMemory};
@@ -21,39 +21,12 @@ use wire_base::{Bytes, Fixed, OutOfMemory};
 /// How many bytes the header of a message has.
 const HEADER: u64 = 19;
 
-/// How many bytes are printed as digits in one go.
-const RUN: usize = 128;
-
-/// Appends the digits of bytes, however many.
-fn print_all_octets(out: &mut Bytes, octets: &[u8]) -> Result<(), OutOfMemory>
-    ensures { OnOk result (out.new ≡ out.old ++ hexadecimal octets.now) }
-{
-    let mut rest = octets;
-    while rest.len() > RUN {
-        let (run, behind) = rest.split_at(RUN);
-        print_octets(out, run)?;
-        rest = behind;
-    }
-    print_octets(out, rest)
-}
-
-/// Appends a label and the digits of bytes, or a dash for none.
-fn print_long_field(out: &mut Bytes, label: &[u8], octets: &[u8]) -> Result<(), OutOfMemory>
-    ensures { OnOk result (out.new ≡ out.old ++ octets_field label.now octets.now) }
-{
-    out.push_all(label)?;
-    if octets.is_empty() {
-        return out.push_all(b"-");
-    }
-    print_all_octets(out, octets)
-}
-
 /// Appends a comma and a capability.
 fn print_further(out: &mut Bytes, capability: &Capability) -> Result<(), OutOfMemory>
     ensures { OnOk result (out.new ≡ out.old ++ further_capability capability.now) }
 {
     print_field(out, b",", u64::from(capability.code))?;
-    print_long_field(out, b":", capability.body.as_slice())
+    print_octets_field(out, b":", capability.body.as_slice())
 }
 
 /// Appends capabilities, each with a comma before it.
@@ -122,7 +95,7 @@ fn print_notification(out: &mut Bytes, notice: &Notice) -> Result<(), OutOfMemor
 {
     print_field(out, b"notification ", u64::from(notice.code))?;
     print_field(out, b" ", u64::from(notice.subcode))?;
-    print_long_field(out, b" ", notice.info.as_slice())?;
+    print_octets_field(out, b" ", notice.info.as_slice())?;
     out.push_all(b"\n")
 }
 
@@ -147,17 +120,28 @@ fn print_attribute_name(out: &mut Bytes, kind: u8) -> Result<(), OutOfMemory>
     }
 }
 
+/// Appends the digits of an attribute's value. One that is kept unread is not copied.
+fn print_value(alloc: Global, out: &mut Bytes, attribute: &Attribute) -> Result<(), OutOfMemory>
+    requires { AttributeFits attribute.now }
+    ensures { OnOk result (out.new ≡ out.old ++ octets_field (codes " ") (body_bytes attribute.now.body)) }
+{
+    if let Body::Raw(value) = &attribute.body {
+        return print_octets_field(out, b" ", value.as_slice());
+    }
+    let value = value_of(alloc, attribute)?;
+    print_octets_field(out, b" ", value.as_slice())
+}
+
 /// Appends the line of an attribute.
 fn print_attribute(alloc: Global, out: &mut Bytes, attribute: &Attribute) -> Result<(), OutOfMemory>
     requires { AttributeFits attribute.now }
     ensures { OnOk result (out.new ≡ out.old ++ attribute_line attribute.now) }
 {
-    let value = value_of(alloc, attribute)?;
     out.push_all(b"attribute ")?;
     print_octets(out, &[attribute.flags])?;
     out.push_all(b" ")?;
     print_attribute_name(out, attribute.kind)?;
-    print_long_field(out, b" ", value.as_slice())?;
+    print_value(alloc, out, attribute)?;
     out.push_all(b"\n")
 }
 
@@ -196,7 +180,7 @@ fn print_refused(out: &mut Bytes, code: u8, subcode: u8, place: u64) -> Result<(
 }
 
 /// Appends the line of bytes that are no whole message, where there are some.
-fn print_rest(out: &mut Bytes, count: usize) -> Result<(), OutOfMemory>
+pub(crate) fn print_rest(out: &mut Bytes, count: usize) -> Result<(), OutOfMemory>
     ensures { OnOk result (out.new ≡ out.old ++ rest_line count) }
 {
     if count == 0 {
@@ -206,31 +190,42 @@ fn print_rest(out: &mut Bytes, count: usize) -> Result<(), OutOfMemory>
     out.push_all(b"\n")
 }
 
-/// Appends the lines of an UPDATE, whose message begins at the place, and answers whether it is one.
-fn show_update(alloc: Global, out: &mut Bytes, place: u64, body: &[u8]) -> Result<bool, OutOfMemory>
+/// What a stream shows next.
+#[derive(Clone, Copy, Debug, PartialEq, Eq)]
+pub(crate) enum Step {
+    /// The lines of a message.
+    Message,
+    /// Nothing yet: no whole message is there, and nothing that is refused.
+    Waits,
+    /// The line of a refusal, behind which nothing is shown.
+    Over,
+}
+
+/// Appends the lines of an UPDATE, whose message begins at the place, or of its refusal.
+fn show_update(alloc: Global, out: &mut Bytes, place: u64, body: &[u8]) -> Result<Step, OutOfMemory>
     requires { place + 19 + length body.now < 2 ^ 64 }
     ensures { UpdateShown place body.now out.old out.new result }
 {
     match decode_update(alloc, body) {
         Ok(update) => {
             print_update(alloc, out, &update)?;
-            Ok(true)
+            Ok(Step::Message)
         }
         Err(UpdateFault::Session(code, subcode, inside)) => {
             print_refused(out, code, subcode, place + HEADER + inside)?;
-            Ok(false)
+            Ok(Step::Over)
         }
         Err(UpdateFault::OutOfMemory) => Err(OutOfMemory),
     }
 }
 
-/// Appends the lines of a message that begins at the place, and answers whether it is one.
+/// Appends the lines of a message that begins at the place, or of its refusal.
 fn show_message(
     alloc: Global,
     out: &mut Bytes,
     place: u64,
     message: &Message,
-) -> Result<bool, OutOfMemory>
+) -> Result<Step, OutOfMemory>
     requires { place + 19 + length (content message.now) < 2 ^ 64 }
     ensures { MessageShown place message.now out.old out.new result }
 {
@@ -240,49 +235,27 @@ fn show_message(
         Message::Notification(notice) => print_notification(out, notice)?,
         Message::KeepAlive => out.push_all(b"keepalive\n")?,
     }
-    Ok(true)
+    Ok(Step::Message)
 }
 
-/// Appends what the feed's next answer shows, and answers whether it was a message.
-fn show_next(alloc: Global, feed: &mut BgpFeed, out: &mut Bytes) -> Result<bool, OutOfMemory>
+/// Appends what the feed's next answer shows.
+pub(crate) fn show_next(
+    alloc: Global,
+    feed: &mut BgpFeed,
+    out: &mut Bytes,
+) -> Result<Step, OutOfMemory>
     requires { feed.old.stop ≡ None }
-    ensures { NextShown feed.old feed.new out.old out.new result }
+    ensures shown { NextShown feed.old feed.new out.old out.new result }
+    ensures count { feed.new.place + length feed.new.rest ≡ feed.old.place + length feed.old.rest }
 {
     let place = feed.place();
     match feed.next() {
         Ok(Some(message)) => show_message(alloc, out, place, &message),
-        Ok(None) => {
-            print_rest(out, feed.rest().len())?;
-            Ok(false)
-        }
+        Ok(None) => Ok(Step::Waits),
         Err(NextFault::Bad(refusal)) => {
             print_refused(out, refusal.code, refusal.subcode, refusal.place)?;
-            Ok(false)
+            Ok(Step::Over)
         }
         Err(NextFault::OutOfMemory) => Err(OutOfMemory),
     }
-}
-
-/// The lines that show a stream of BGP messages (RFC 4271, section 4), and where it is refused.
-///
-/// ```text
-/// open as=A hold=H id=D capabilities=L       L: CODE:HEX, joined by commas, or - for none
-/// keepalive
-/// notification C S HEX
-/// update                                     and for each attribute:
-/// attribute FF NAME HEX                      FF: the flags
-/// rest N                                     N bytes that are no whole message, at the end
-/// refused CODE SUBCODE PLACE                 PLACE: counted from the stream's first byte, at the end
-/// ```
-///
-/// HEX has two digits a byte in lower case, and is `-` for no bytes. An attribute without a name is shown by its number. An
-/// update that is refused has the refused line in place of its own.
-pub fn bgp_lines(alloc: Global, bytes: &[u8]) -> Result<Bytes, OutOfMemory>
-    ensures { IfOk result (ShowsBgp bytes.now) }
-{
-    let mut feed = BgpFeed::new(alloc);
-    feed.push(bytes)?;
-    let mut out = Bytes::new(alloc);
-    'messages: while show_next(alloc, &mut feed, &mut out)? {}
-    Ok(out)
 }

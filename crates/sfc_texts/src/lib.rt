@@ -12,24 +12,32 @@
 //! What the layer above uses:
 //!
 //! - `nsh_lines` gives the lines of the header that bytes begin with and of what follows it, or the one line
-//!   of their refusal.
-//! - `bgp_lines` gives the lines of the messages of a BGP stream, and then its rest or where it is refused
-//!   (`ShowsBgp`, of which a stream has one: `a_stream_is_shown_once`).
-//! - `bytes_are_shown_once`: bytes have one such text, so what is shown of a header can be trusted.
+//!   of their refusal; `nsh_lines_of_front` gives them from the first bytes and the number of those that follow.
+//! - `StreamLines` gives the lines of a BGP stream as the stream comes, and then its rest or where it is refused: what it gave for
+//!   the bytes so far is a front of the text of the whole stream, whatever follows (`Stands`). `bgp_lines` gives them at once
+//!   (`ShowsBgp`).
+//! - Bytes, and a stream, have one such text, and always one (`bytes_are_shown_once`, `bytes_are_shown`,
+//!   `a_stream_is_shown_once`, `every_stream_is_shown`), so what is shown can be trusted.
 //!
-//! It does no IO, and takes memory for the text and, of a stream, for its messages.
+//! It does no IO, and takes memory for the text and, of a stream, for a message at a time.
 //!
 //! ```text
 //! let text = nsh_lines(alloc, &bytes)?;   // "refused short 0\n" for no bytes
+//!
+//! let mut lines = StreamLines::new(alloc);
+//! lines.push(piece)?;
+//! lines.drain(&mut text)?;                // and at the end of the stream:
+//! lines.finish(&mut text)?;
 //! ```
 #![tactic(auto)]
 
 mod bgp_text;
 mod laws;
 mod nsh_text;
-#[cfg(test)]
-mod tests;
+mod stream_texts;
 
-pub use bgp_text::bgp_lines;
-pub use laws::{a_stream_is_shown_once, bytes_are_shown_once};
-pub use nsh_text::nsh_lines;
+pub use laws::{
+    a_stream_is_shown_once, bytes_are_shown, bytes_are_shown_once, every_stream_is_shown,
+};
+pub use nsh_text::{nsh_lines, nsh_lines_of_front};
+pub use stream_texts::{StreamLines, bgp_lines};

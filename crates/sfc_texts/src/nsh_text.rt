@@ -1,6 +1,6 @@
 //! The lines that show a Network Service Header.
 
-ghost use Rattle.std.specs.Prelude.{◌≡◌, ◌≤◌, ◌++◌, length, codes, OnOk, IfOk};
+ghost use Rattle.std.specs.Prelude.{◌≡◌, ◌≤◌, ◌<◌, ◌+◌, ◌^◌, ◌++◌, ℕ, List, length, codes, OnOk, IfOk};
 ghost use Rattle.std.specs.List.{flat_map};
 ghost use Rattle.nsh_metadata.specs.Item.{IsItem};
 ghost use Rattle.nsh_metadata.specs.Shown.{shown};
@@ -65,9 +65,12 @@ fn print_spare(out: &mut Bytes, base: Base) -> Result<(), OutOfMemory>
     print_field(out, b"/", u64::from(base.spare4))
 }
 
-/// Appends a label and bytes.
-fn print_octets_field(out: &mut Bytes, label: &[u8], octets: &[u8]) -> Result<(), OutOfMemory>
-    requires { length octets.now ≤ 128 }
+/// Appends a label and bytes, however many, or a dash for none.
+pub(crate) fn print_octets_field(
+    out: &mut Bytes,
+    label: &[u8],
+    octets: &[u8],
+) -> Result<(), OutOfMemory>
     ensures { OnOk result (out.new ≡ out.old ++ octets_field label.now octets.now) }
 {
     out.push_all(label)?;
@@ -133,10 +136,10 @@ fn print_context(out: &mut Bytes, context: &Context) -> Result<(), OutOfMemory>
 }
 
 /// Appends the line that tells how many bytes follow the header.
-fn print_payload(out: &mut Bytes, count: usize) -> Result<(), OutOfMemory>
+fn print_payload(out: &mut Bytes, count: u64) -> Result<(), OutOfMemory>
     ensures { OnOk result (out.new ≡ out.old ++ payload_line count) }
 {
-    print_field(out, b"payload ", count as u64)?;
+    print_field(out, b"payload ", count)?;
     out.push_all(b"\n")
 }
 
@@ -151,7 +154,7 @@ fn print_head(out: &mut Bytes, head: NshHead) -> Result<(), OutOfMemory>
 }
 
 /// The lines of a header with so many bytes behind it.
-fn header_text(alloc: Global, nsh: &Nsh, behind: usize) -> Result<Bytes, OutOfMemory>
+fn header_text(alloc: Global, nsh: &Nsh, behind: u64) -> Result<Bytes, OutOfMemory>
     ensures { IfOk result (λ text. text ≡ header_lines nsh.now behind) }
 {
     let mut out = Bytes::new(alloc);
@@ -185,6 +188,19 @@ fn refusal_text(alloc: Global, fault: NshFault) -> Result<Bytes, OutOfMemory>
     Ok(out)
 }
 
+/// The text of `nsh_lines` for bytes of which these are the first, and `behind` more follow. Where some follow, at least 252
+/// are given, the most that a header has.
+pub fn nsh_lines_of_front(alloc: Global, front: &[u8], behind: u64) -> Result<Bytes, OutOfMemory>
+    requires enough { length front.now < 252 → behind ≡ 0 }
+    requires fits { length front.now + behind < 2 ^ 64 }
+    ensures { (rest : List ℕ) → length rest ≡ behind → IfOk result (ShowsNsh (front.now ++ rest)) }
+{
+    match decode_nsh(front) {
+        Ok((nsh, size)) => header_text(alloc, &nsh, (front.len() - size) as u64 + behind),
+        Err(fault) => refusal_text(alloc, fault),
+    }
+}
+
 /// The lines that show the header which the bytes begin with (RFC 8300, section 2) and how many bytes follow
 /// it, or the one line of the first refusal from the left.
 ///
@@ -202,8 +218,5 @@ fn refusal_text(alloc: Global, fault: NshFault) -> Result<Bytes, OutOfMemory>
 pub fn nsh_lines(alloc: Global, bytes: &[u8]) -> Result<Bytes, OutOfMemory>
     ensures { IfOk result (ShowsNsh bytes.now) }
 {
-    match decode_nsh(bytes) {
-        Ok((nsh, size)) => header_text(alloc, &nsh, bytes.len() - size),
-        Err(fault) => refusal_text(alloc, fault),
-    }
+    nsh_lines_of_front(alloc, bytes, 0)
 }
