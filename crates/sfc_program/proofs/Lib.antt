@@ -1,12 +1,1 @@
-pub mod StaticLemmas
-pub mod WalkLemmas
-pub mod WalkEnds
-pub mod EgressLemmas
-pub mod WordLemmas
-pub mod FrontLemmas
-pub mod PieceLemmas
-pub mod PacketLemmas
-pub mod WalkRunLemmas
-pub mod WalkAnswerLemmas
-pub mod ShowLemmas
 pub mod SfcCallLemmas

@@ -4,11 +4,12 @@ use Rattle.sfc_desk.specs.declared.ports.Port.{Port}
 use Rattle.sfc_desk.specs.Desks.{Shown, Files}
 use Rattle.sfc_program.specs.declared.sfc_calls.Row.{Row}
 use Rattle.sfc_program.specs.declared.sfc_calls.Row.TheVariants as row
-use Rattle.sfc_program.specs.declared.statuses.Status.{Status}
-use Rattle.sfc_program.specs.declared.statuses.Status.TheVariants as status
-use Rattle.sfc_program.specs.Commands.{NoneRose}
-use Rattle.sfc_program.specs.WalkCommand.{Walk, IsWalk}
-use Rattle.sfc_program.specs.ShowCommand.{Show, IsShow}
+use Rattle.commands.specs.declared.statuses.Status.{Status}
+use Rattle.commands.specs.declared.statuses.Status.TheVariants as status
+use Rattle.commands.specs.Commands.{Behaves, CommandCall, NoneRose}
+use Rattle.commands.specs.Places.{Place}
+use Rattle.walk_command.specs.WalkCommand.{Walk, IsWalk, WalkRuns, WalkWants, walk_ports}
+use Rattle.show_command.specs.ShowCommand.{Show, IsShow, ShowRuns, ShowWants, show_ports}
 use Rattle.sfc_program.specs.SfcCalls.{Command, walk, show, Spells, Runs, Wants, RowCall, row_of}
 
 -- the words of a command pick its row
@@ -39,33 +40,28 @@ spells_show : (words : List (List ℕ)) (command : Command) → row_of words ≡
 spells_show words (walk said) picked is = let other : row_of words ≡ row.Walk = walk_row words said is in cc
 spells_show words (show said) picked is = (said, refl, is)
 
+-- what the call of one command says, where the words pick its row
+of_command : {Said : Type 0} (Is : List (List ℕ) → Said → Type 0) (ports : Said → List Place) (Does : Said → Bool → Files → (Port → Shown) → (Port → Shown) → Status → Type 0) (Asked : Said → Files → Status → Type 0) (tag : Said → Command) (words : List (List ℕ)) (tells : Bool) (held : Files) (then now : Port → Shown) (answer : Status) → ((command : Command) → Spells words command → (said : Said) × (command ≡ tag said) × Is words said) → ((said : Said) → Is words said → Spells words (tag said)) → ((said : Said) → Does said tells held then now answer → Behaves (ports said) tells held then now answer → Runs (tag said) tells held then now answer) → ((said : Said) (wanted : Status) → Wants (tag said) held wanted → Asked said held wanted) → CommandCall Is ports Does Asked words tells held then now answer → AllCommands words tells held then now answer
+of_command {Said} Is ports Does Asked tag words tells held then now answer said_by spelled does asked call = record {
+  words_fault = (
+    (λ refused command spells. let one = said_by command spells in call.words_fault.0 refused one.0 one.2),
+    λ none. call.words_fault.1 (λ said is. none (tag said) (spelled said is)),
+  );
+  runs = λ command spells.
+      let one = said_by command spells in
+      subst (λ (c : Command). Runs c tells held then now answer) (sym one.1) (does one.0 (call.runs one.0 one.2) (call.behaves one.0 one.2));
+  untouched = call.untouched;
+  exact = λ command wanted spells wants told none some.
+      let one = said_by command spells in
+      call.exact one.0 wanted one.2 (asked one.0 wanted (subst (λ (c : Command). Wants c held wanted) one.1 wants)) told none some;
+}
+
+-- the row that is picked: a line for each command
 pub of_row : (picked : Row) (words : List (List ℕ)) (tells : Bool) (held : Files) (then now : Port → Shown) (answer : Status) → row_of words ≡ picked → RowCall picked words tells held then now answer → AllCommands words tells held then now answer
-of_row row.Walk words tells held then now answer is call = record {
-  words_fault = (
-    (λ refused command spells. let one = spells_walk words command is spells in call.words_fault.0 refused one.0 one.2),
-    λ none. call.words_fault.1 (λ said is_said. none (walk said) is_said),
-  );
-  runs = λ command spells.
-      let one = spells_walk words command is spells in
-      subst (λ (c : Command). Runs c tells held then now answer) (sym one.1) (call.runs one.0 one.2, call.only one.0 one.2);
-  untouched = call.untouched;
-  exact = λ command wanted spells wants told none some.
-      let one = spells_walk words command is spells in
-      call.exact one.0 wanted one.2 (subst (λ (c : Command). Wants c held wanted) one.1 wants) told none some;
-}
-of_row row.Show words tells held then now answer is call = record {
-  words_fault = (
-    (λ refused command spells. let one = spells_show words command is spells in call.words_fault.0 refused one.0 one.2),
-    λ none. call.words_fault.1 (λ said is_said. none (show said) is_said),
-  );
-  runs = λ command spells.
-      let one = spells_show words command is spells in
-      subst (λ (c : Command). Runs c tells held then now answer) (sym one.1) (call.runs one.0 one.2, call.only one.0 one.2);
-  untouched = call.untouched;
-  exact = λ command wanted spells wants told none some.
-      let one = spells_show words command is spells in
-      call.exact one.0 wanted one.2 (subst (λ (c : Command). Wants c held wanted) one.1 wants) told none some;
-}
+of_row row.Walk words tells held then now answer is call =
+    of_command IsWalk walk_ports WalkRuns WalkWants walk words tells held then now answer (λ command spells. spells_walk words command is spells) (λ said spells. spells) (λ said runs behaves. (runs, behaves)) (λ said wanted wants. wants) call
+of_row row.Show words tells held then now answer is call =
+    of_command IsShow show_ports ShowRuns ShowWants show words tells held then now answer (λ command spells. spells_show words command is spells) (λ said spells. spells) (λ said runs behaves. (runs, behaves)) (λ said wanted wants. wants) call
 of_row row.Unknown words tells held then now answer is call = record {
   words_fault = ((λ refused command spells. unknown_spells_none words command is spells), λ none. call.0);
   runs = λ command spells. absurd (unknown_spells_none words command is spells);

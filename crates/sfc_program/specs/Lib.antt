@@ -1,12 +1,1 @@
-pub mod Answers
-pub mod Walks
-pub mod TurnSteps
-pub mod Commands
-pub mod WalkCommand
-pub mod ShowCommand
-pub mod ShowSteps
 pub mod SfcCalls
-pub mod WalkSteps
-pub mod Fronts
-pub mod Pieces
-pub mod Statuses

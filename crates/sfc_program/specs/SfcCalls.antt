@@ -2,13 +2,13 @@
 use Rattle.std.specs.Prelude.{◌≡◌, ℕ, Bool, List, [], ◌∷◌, codes, bytes_eq, if◌then◌else◌}
 use Rattle.sfc_desk.specs.declared.ports.Port.{Port}
 use Rattle.sfc_desk.specs.Desks.{Shown, Files}
+use Rattle.commands.specs.declared.statuses.Status.{Status}
+use Rattle.commands.specs.declared.statuses.Status.TheVariants as status
+use Rattle.commands.specs.Commands.{Behaves}
+use Rattle.walk_command.specs.WalkCommand.{Walk, IsWalk, WalkRuns, WalkWants, WalkCall, walk_ports}
+use Rattle.show_command.specs.ShowCommand.{Show, IsShow, ShowRuns, ShowWants, ShowCall, show_ports}
 use Rattle.sfc_program.specs.declared.sfc_calls.Row.{Row}
 use Rattle.sfc_program.specs.declared.sfc_calls.Row.TheVariants as row
-use Rattle.sfc_program.specs.declared.statuses.Status.{Status}
-use Rattle.sfc_program.specs.declared.statuses.Status.TheVariants as status
-use Rattle.sfc_program.specs.Commands.{OnlyNamed}
-use Rattle.sfc_program.specs.WalkCommand.{Walk, IsWalk, WalkRuns, WalkWants, WalkCall, walk_names}
-use Rattle.sfc_program.specs.ShowCommand.{Show, IsShow, ShowRuns, ShowWants, ShowCall, show_names}
 
 -- a command with what its words say
 pub data Command : Type 0 where
@@ -20,10 +20,10 @@ abbrev pub Spells : List (List ℕ) → Command → Type 0
 Spells words (walk said) = IsWalk words said
 Spells words (show said) = IsShow words said
 
--- what each answer says, and that no other port changed
+-- what each answer says of what was written, and of the ports
 abbrev pub Runs : Command → Bool → Files → (Port → Shown) → (Port → Shown) → Status → Type 0
-Runs (walk said) tells held old new answer = WalkRuns said tells held old new answer × OnlyNamed (walk_names said) old new
-Runs (show said) tells held old new answer = ShowRuns said tells held old new answer × OnlyNamed (show_names said) old new
+Runs (walk said) tells held old new answer = WalkRuns said tells held old new answer × Behaves (walk_ports said) tells held old new answer
+Runs (show said) tells held old new answer = ShowRuns said tells held old new answer × Behaves (show_ports said) tells held old new answer
 
 -- what the files ask for
 abbrev pub Wants : Command → Files → Status → Type 0

@@ -1,16 +1,14 @@
 ghost use Rattle.std.specs.Prelude.{◌≡◌, ◌≢◌, ◌↔◌, true};
 ghost use Rattle.sfc_desk.specs.declared.ports.Port.{Port};
-ghost use Rattle.sfc_program.specs.declared.statuses.Status.{Status as Answered};
-ghost use Rattle.sfc_program.specs.Commands.{NoneRose};
+ghost use Rattle.commands.specs.declared.statuses.Status.{Status as Answered};
+ghost use Rattle.commands.specs.Commands.{NoneRose};
 ghost use Rattle.sfc_program.specs.SfcCalls.{Command, Spells, Runs, Wants, RowCall, row_of as row_of_words};
 
-use crate::gates::Gate;
-use crate::show_command::show_call;
-use crate::statuses::Status;
-use crate::walk_command::walk_call;
-use crate::words::Words;
+use commands::{Gate, Status, Words};
 use sfc_desk::Desk;
+use show_command::show_call;
 use std::alloc::Global;
+use walk_command::walk_call;
 
 /// The commands, by their first words.
 #[derive(Clone, Copy, Debug, PartialEq, Eq)]

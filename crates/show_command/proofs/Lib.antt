@@ -1,0 +1,4 @@
+pub mod HeaderLemmas
+pub mod ShowLemmas
+pub mod SourceLemmas
+pub mod StreamLemmas

@@ -1,0 +1,2 @@
+pub mod ShowCommand
+pub mod ShowSteps

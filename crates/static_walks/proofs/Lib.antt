@@ -1,0 +1,3 @@
+pub mod StaticLemmas
+pub mod WalkLemmas
+pub mod WalkEnds

@@ -1,0 +1,2 @@
+pub mod WalkCommand
+pub mod WalkSteps
