@@ -1,0 +1,6 @@
+-- Each turn takes a line.
+use Rattle.std.proofs.Common.{length}
+use Rattle.setup_rows.proofs.read_words.lines_row.Given as goal
+
+abbrev pub decreases-lines : goal.decreases-lines
+decreases-lines l = length l.lines
