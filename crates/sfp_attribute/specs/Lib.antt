@@ -1,0 +1,3 @@
+pub mod Sfps
+pub mod Refusals
+pub mod Steps
