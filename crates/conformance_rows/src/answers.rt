@@ -20,6 +20,7 @@ pub(crate) fn is_answer(answer: Option<Expected>, expected: &Expected) -> bool {
             Some(Expected::Update(code, subcode, place)),
             Expected::Update(other_code, other_subcode, other_place),
         ) => code == *other_code && subcode == *other_subcode && place == *other_place,
+        (Some(Expected::Sfp(fault)), Expected::Sfp(other)) => fault == *other,
         _ => false,
     }
 }

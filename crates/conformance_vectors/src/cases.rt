@@ -2,6 +2,7 @@
 
 use bgp_messages::Refusal;
 use nsh_headers::NshFault;
+use sfp_attribute::SfpFault;
 
 /// What a decoder answers to an input.
 #[derive(Debug, Drop)]
@@ -14,6 +15,8 @@ pub enum Expected {
     Bgp(Refusal),
     /// The content of an UPDATE that is refused with this code and subcode, at this place from its first byte.
     Update(u8, u8, u64),
+    /// The value of an SFP attribute with this fault.
+    Sfp(SfpFault),
 }
 
 /// An input and the answer to it.
