@@ -1,0 +1,12 @@
+-- The parts in turn, and a front of one of them.
+use Rattle.text_words.proofs.PrintingLemmas.{fails}
+use Rattle.record_text.proofs.AppendLemmas.{front_here, front_behind}
+use Rattle.record_text.proofs.table_texts.say_at.Goals as goal
+
+pub returns-in_err-say_instance-clause-err : goal.returns-in_err-say_instance-clause-err
+returns-in_err-say_instance-clause-err c = fails _ c.from_residual.result (front_here _ _ _ _ c.in_err-say_instance.ensures.err)
+
+pub returns-in_err-say_forwarder-clause-err : goal.returns-in_err-say_forwarder-clause-err
+returns-in_err-say_forwarder-clause-err c =
+    fails _ c.from_residual-in_err-say_forwarder.result
+    (front_behind _ _ _ _ _ c.in_ok-say_instance.ensures.ok (front_behind _ _ _ _ _ c.in_ok-push_all.ensures.ok c.in_err-say_forwarder.ensures.err))

@@ -1,0 +1,10 @@
+use crate::records::{End, Reason, Record};
+
+fn crosses<T: Send + Sync + Drop>() {}
+
+/// Shows that the types of this crate may be handed to and shared with threads, as soon as it compiles.
+pub fn types_cross_threads() {
+    crosses::<Record>();
+    crosses::<End>();
+    crosses::<Reason>();
+}
