@@ -1,0 +1,10 @@
+pub mod HeaderEdits
+pub mod HopLemmas
+pub mod VisitLemmas
+pub mod LookLemmas
+pub mod WalkSteps
+pub mod Unwalked
+pub mod OneWalk
+pub mod WalkLengths
+pub mod StraightLemmas
+pub mod StraightWalks

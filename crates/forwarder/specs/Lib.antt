@@ -1,0 +1,6 @@
+pub mod Stations
+pub mod Walks
+pub mod Records
+pub mod Workspaces
+pub mod Ways
+pub mod Kept
