@@ -1,6 +1,6 @@
 -- One attribute more: the bytes so far, what fits, and where one is refused.
 use Rattle.std.proofs.Common.{◌≡◌, ℕ, ◌+◌, ◌-◌, ◌/◌, ◌%◌, if◌then◌else◌, ◌==◌, ◌<◌, ◌≤◌, Bool, true, false, cond, List, [], ◌∷◌, ◌++◌, length, refl, sym, ap, subst, ◌∙◌, append_assoc, inl, inr, arith}
-use Rattle.std.specs.List.{AllByRecursion}
+use Rattle.std.specs.List.{flat_map, AllByRecursion}
 use Rattle.std.proofs.lemmas.List.{length-append, append-nil}
 use Rattle.std.proofs.lemmas.Grind.{flat_map-append}
 use Rattle.std.proofs.lemmas.Bool.{eqb-true}
@@ -38,11 +38,11 @@ one_more before a fit fits first = record {
   one_unreach = count_with 15 before a (λ e again. first (record { reachability = inr e; again = subst (λ (k : ℕ). 0 < count_of k before) (sym e) again })) fit.one_unreach;
 }
 
--- the bytes of the attributes before, of one more, and of what follows
-pub bytes_with : (before : List Attribute) (a : Attribute) (more : List ℕ) → attributes_bytes before ++ (attribute_bytes a ++ more) ≡ attributes_bytes (before ++ a ∷ []) ++ more
-bytes_with before a more =
-    sym (append_assoc (attributes_bytes before) (attribute_bytes a) more)
-    ∙ ap (λ (l : List ℕ). l ++ more) (ap (λ (l : List ℕ). attributes_bytes before ++ l) (sym (append-nil (attribute_bytes a))) ∙ sym (flat_map-append attribute_bytes before (a ∷ [])))
+-- the bytes of what is before, of one more, and of what follows
+pub spelled_with : {X : Type 0} (f : X → List ℕ) (before : List X) (x : X) (more : List ℕ) → flat_map f before ++ (f x ++ more) ≡ flat_map f (before ++ x ∷ []) ++ more
+spelled_with f before x more =
+    sym (append_assoc (flat_map f before) (f x) more)
+    ∙ ap (λ (l : List ℕ). l ++ more) (ap (λ (l : List ℕ). flat_map f before ++ l) (sym (append-nil (f x))) ∙ sym (flat_map-append f before (x ∷ [])))
 
 -- an attribute is what was cut off, where its body was read
 pub cut_is : (a : Attribute) (bytes value more : List ℕ) → Splits bytes a.flags a.kind value more → value ≡ body_bytes a.body → bytes ≡ attribute_bytes a ++ more
@@ -71,7 +71,7 @@ step bytes before rest a value more small split fit cut first reads =
       body = reads.fits;
       size = subst (λ (v : List ℕ). length v < size_limit a.flags) reads.spelled cut.size;
     } in
-    (split ∙ ap (λ (l : List ℕ). attributes_bytes before ++ l) (cut_is a rest value more cut reads.spelled) ∙ bytes_with before a more, one_more before a fit fits first)
+    (split ∙ ap (λ (l : List ℕ). attributes_bytes before ++ l) (cut_is a rest value more cut reads.spelled) ∙ spelled_with attribute_bytes before a more, one_more before a fit fits first)
 
 pub refused_one : (start : ℕ) (bytes : List ℕ) (before : List Attribute) (bad : List ℕ) (flags kind : ℕ) (value more : List ℕ) (fault : UpdateFault)
     → bytes ≡ attributes_bytes before ++ bad → AttributesFit before → Splits bad flags kind value more → ¬ Repeats kind before

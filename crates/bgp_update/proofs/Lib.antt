@@ -7,3 +7,4 @@ pub mod UpdateReadings
 pub mod ExactLemmas
 pub mod RefusalLemmas
 pub mod TotalReadings
+pub mod CheckLemmas

@@ -101,7 +101,7 @@ sfpr_read kind body small is_two size = (
   },
 )
 
-route_or_not : (kind : ℕ) (body : List ℕ) → Small body → kind < 2 ^ 16 → length body < 2 ^ 16 → WrongSize kind (length body) ⊎ ((r : Nlri) × ReadsNlri kind body r)
+pub route_or_not : (kind : ℕ) (body : List ℕ) → Small body → kind < 2 ^ 16 → length body < 2 ^ 16 → WrongSize kind (length body) ⊎ ((r : Nlri) × ReadsNlri kind body r)
 route_or_not kind body small kind_fits size_fits =
     elim (cases_eq kind 1) [
       | inl one ↦ elim (cases_eq (length body) 10) [
@@ -144,7 +144,7 @@ one_route start r more bytes fits e (inr rest) =
       },
     )
 
-cut_route : (bytes : List ℕ) (kind : ℕ) (body more : List ℕ) (r : Nlri) → SplitsNlri bytes kind body more → ReadsNlri kind body r → bytes ≡ nlri_bytes r ++ more
+pub cut_route : (bytes : List ℕ) (kind : ℕ) (body more : List ℕ) (r : Nlri) → SplitsNlri bytes kind body more → ReadsNlri kind body r → bytes ≡ nlri_bytes r ++ more
 cut_route bytes kind body more r s reads =
     subst (λ (k : ℕ). bytes ≡ two k ++ two (length (inside r)) ++ inside r ++ more) (sym reads.kind_is)
     (subst (λ (b : List ℕ). bytes ≡ two kind ++ two (length b) ++ b ++ more) (sym reads.body_is) s.parts)
@@ -313,7 +313,7 @@ pieces_of (suc n) (b ∷ bytes) less whole =
       },
     )
 
-extended_read : (start flags kind : ℕ) (value : List ℕ) → kind ≡ 16 → BodyOrNot start flags kind value
+pub extended_read : (start flags kind : ℕ) (value : List ℕ) → kind ≡ 16 → BodyOrNot start flags kind value
 extended_read start flags kind value sixteen =
     elim (communities_or_not flags value) [
       | inl has ↦

@@ -32,11 +32,11 @@ same_sized false v w m n fv fw e =
     let tails : v ++ m ≡ w ++ n = ap (λ (b : List ℕ). drop 1 b) e in
     same_parts v w m n size tails
 
-record SameCut (flags flags' kind kind' : ℕ) (value value' more more' : List ℕ) : Type 0 where
-  flags_is : flags ≡ flags'
-  kind_is : kind ≡ kind'
-  value_is : value ≡ value'
-  more_is : more ≡ more'
+pub record SameCut (flags flags' kind kind' : ℕ) (value value' more more' : List ℕ) : Type 0 where
+  pub flags_is : flags ≡ flags'
+  pub kind_is : kind ≡ kind'
+  pub value_is : value ≡ value'
+  pub more_is : more ≡ more'
 
 same_cut : (bytes : List ℕ) (flags flags' kind kind' : ℕ) (value value' more more' : List ℕ) → Splits bytes flags kind value more → Splits bytes flags' kind' value' more'
     → SameCut flags flags' kind kind' value value' more more'
@@ -67,6 +67,15 @@ past_no false flags kind v m f (inr short) = omega (arith, short, length-append 
 
 whole_not_past : (bytes : List ℕ) (flags kind : ℕ) (value more : List ℕ) → Splits bytes flags kind value more → RunsPast bytes → ⊥
 whole_not_past bytes flags kind value more s past = past_no ((flags / 16) % 2 == 1) flags kind value more s.size (subst RunsPast s.parts past)
+
+-- what is cut off the front of an attribute's bytes and what follows is the attribute
+pub first_cut : (a : Attribute) (after : List ℕ) (flags kind : ℕ) (value more : List ℕ) → AttributeFits a → Splits (attribute_bytes a ++ after) flags kind value more
+    → SameCut flags a.flags kind a.kind value (body_bytes a.body) more after
+first_cut a after flags kind value more f cut = same_cut (attribute_bytes a ++ after) flags a.flags kind a.kind value (body_bytes a.body) more after cut (cut_of a after f)
+
+-- and it does not run past the end
+pub first_whole : (a : Attribute) (after : List ℕ) → AttributeFits a → RunsPast (attribute_bytes a ++ after) → ⊥
+first_whole a after f = whole_not_past (attribute_bytes a ++ after) a.flags a.kind (body_bytes a.body) after (cut_of a after f)
 
 -- an attribute that fits behind those before
 record Fits (before : List Attribute) (a : Attribute) : Type 0 where

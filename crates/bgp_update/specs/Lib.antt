@@ -5,3 +5,4 @@ pub mod Updates
 pub mod Refusals
 pub mod Pieces
 pub mod Steps
+pub mod Checks

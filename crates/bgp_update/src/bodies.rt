@@ -7,7 +7,7 @@ use crate::attributes::{Body, MpReach, MpUnreach};
 use crate::communities::{has_communities, read_communities};
 use crate::faults::{UpdateFault, malformed};
 use crate::nlri_lists::read_list;
-use crate::pieces::{Piece, header_of};
+use crate::pieces::{AttributePiece, header_of};
 use crate::reach::{FAMILY_SIZE, behind_family, reach_head};
 use std::alloc::Global;
 use wire_base::Bytes;
@@ -20,7 +20,7 @@ pub(crate) const MP_UNREACH: u8 = 15;
 
 pub(crate) const EXTENDED_COMMUNITIES: u8 = 16;
 
-fn read_reach(alloc: Global, start: u64, piece: &Piece<'_>) -> Result<Body, UpdateFault>
+fn read_reach(alloc: Global, start: u64, piece: &AttributePiece<'_>) -> Result<Body, UpdateFault>
     requires kind { piece.now.kind ≡ 14 }
     requires place { start + header_size piece.now.flags + length piece.now.value.now < 2 ^ 64 }
     ensures { BodyGives start piece.now.flags piece.now.kind piece.now.value.now result }
@@ -44,7 +44,7 @@ fn read_reach(alloc: Global, start: u64, piece: &Piece<'_>) -> Result<Body, Upda
     }))
 }
 
-fn read_unreach(alloc: Global, start: u64, piece: &Piece<'_>) -> Result<Body, UpdateFault>
+fn read_unreach(alloc: Global, start: u64, piece: &AttributePiece<'_>) -> Result<Body, UpdateFault>
     requires kind { piece.now.kind ≡ 15 }
     requires place { start + header_size piece.now.flags + length piece.now.value.now < 2 ^ 64 }
     ensures { BodyGives start piece.now.flags piece.now.kind piece.now.value.now result }
@@ -61,7 +61,7 @@ fn read_unreach(alloc: Global, start: u64, piece: &Piece<'_>) -> Result<Body, Up
     Ok(Body::Unreach(MpUnreach { nlri }))
 }
 
-fn read_extended(alloc: Global, start: u64, piece: &Piece<'_>) -> Result<Body, UpdateFault>
+fn read_extended(alloc: Global, start: u64, piece: &AttributePiece<'_>) -> Result<Body, UpdateFault>
     requires { piece.now.kind ≡ 16 }
     ensures { BodyGives start piece.now.flags piece.now.kind piece.now.value.now result }
 {
@@ -72,7 +72,7 @@ fn read_extended(alloc: Global, start: u64, piece: &Piece<'_>) -> Result<Body, U
     Ok(Body::Raw(Bytes::copy_of(alloc, piece.value)?))
 }
 
-fn read_raw(alloc: Global, start: u64, piece: &Piece<'_>) -> Result<Body, UpdateFault>
+fn read_raw(alloc: Global, start: u64, piece: &AttributePiece<'_>) -> Result<Body, UpdateFault>
     requires reachability { ¬ IsReachability piece.now.kind }
     requires communities { piece.now.kind ≢ 16 }
     ensures { BodyGives start piece.now.flags piece.now.kind piece.now.value.now result }
@@ -81,7 +81,11 @@ fn read_raw(alloc: Global, start: u64, piece: &Piece<'_>) -> Result<Body, Update
 }
 
 /// The value of an attribute that stands at the place.
-pub(crate) fn read_body(alloc: Global, start: u64, piece: &Piece<'_>) -> Result<Body, UpdateFault>
+pub(crate) fn read_body(
+    alloc: Global,
+    start: u64,
+    piece: &AttributePiece<'_>,
+) -> Result<Body, UpdateFault>
     requires { start + header_size piece.now.flags + length piece.now.value.now < 2 ^ 64 }
     ensures { BodyGives start piece.now.flags piece.now.kind piece.now.value.now result }
 {

@@ -1,16 +1,17 @@
-ghost use Rattle.std.specs.Prelude.{◌≡◌, ◌<◌, ◌+◌, ◌^◌, length, MatchOption, MatchBool};
+ghost use Rattle.std.specs.Prelude.{◌≡◌, ◌<◌, ◌+◌, ◌^◌, length, MatchBool};
 ghost use Rattle.bgp_update.specs.Attributes.{IsReachability};
 ghost use Rattle.bgp_update.specs.Updates.{count_of};
-ghost use Rattle.bgp_update.specs.Refusals.{Repeats, OpensNot, Opens};
+ghost use Rattle.bgp_update.specs.Refusals.{Repeats};
 ghost use Rattle.bgp_update.specs.Steps.{AttributesGive, UpdateGives, Exact};
 
 use crate::attributes::Attribute;
 use crate::bodies::{MP_REACH, MP_UNREACH, read_body};
 use crate::faults::{UpdateFault, malformed};
-use crate::pieces::piece_of;
+use crate::parts::parts_of;
+use crate::pieces::attribute_at;
 use crate::updates::Update;
 use std::alloc::Global;
-use wire_base::{Bytes, List, be_u16};
+use wire_base::{Bytes, List};
 
 /// Whether attributes of this kind may come only once.
 fn is_reachability(kind: u8) -> bool
@@ -46,7 +47,7 @@ fn read_attributes(alloc: Global, start: u64, bytes: &[u8]) -> Result<List<Attri
     let mut rest = bytes;
     while !rest.is_empty() {
         let place = start + (bytes.len() - rest.len()) as u64;
-        let Some(piece) = piece_of(rest) else {
+        let Some(piece) = attribute_at(rest) else {
             return Err(malformed(place));
         };
         if repeats(attributes.as_slice(), piece.kind) {
@@ -63,49 +64,17 @@ fn read_attributes(alloc: Global, start: u64, bytes: &[u8]) -> Result<List<Attri
     Ok(attributes)
 }
 
-/// The withdrawn routes, the length of the attributes, and what follows it.
-#[derive(Clone, Copy)]
-struct Opening<'a> {
-    withdrawn: &'a [u8],
-    size: u16,
-    rest: &'a [u8],
-}
-
-/// Cuts off what stands before the attributes. None exactly where it is not all there.
-fn opening_of(content: &[u8]) -> Option<Opening<'_>>
-    ensures { MatchOption result (OpensNot content.now) (λ o. Opens content.now o.withdrawn.now o.size o.rest.now) }
-{
-    if content.len() < 4 {
-        return None;
-    }
-    let size = usize::from(be_u16(content));
-    let after = &content[2..];
-    if after.len() - 2 < size {
-        return None;
-    }
-    let (withdrawn, behind) = after.split_at(size);
-    Some(Opening {
-        withdrawn,
-        size: be_u16(behind),
-        rest: &behind[2..],
-    })
-}
-
 fn read_update(alloc: Global, body: &[u8]) -> Result<Update, UpdateFault>
     ensures { UpdateGives body.now result }
 {
-    let Some(opening) = opening_of(body) else {
-        return Err(malformed(0));
+    let parts = match parts_of(body) {
+        Ok(parts) => parts,
+        Err(place) => return Err(malformed(place)),
     };
-    let before = opening.withdrawn.len() as u64;
-    let size = usize::from(opening.size);
-    if opening.rest.len() < size {
-        return Err(malformed(2 + before));
-    }
-    let (attributes, nlri) = opening.rest.split_at(size);
-    let attributes = read_attributes(alloc, 4 + before, attributes)?;
-    let withdrawn = Bytes::copy_of(alloc, opening.withdrawn)?;
-    let nlri = Bytes::copy_of(alloc, nlri)?;
+    let before = parts.withdrawn.len() as u64;
+    let attributes = read_attributes(alloc, 4 + before, parts.attributes)?;
+    let withdrawn = Bytes::copy_of(alloc, parts.withdrawn)?;
+    let nlri = Bytes::copy_of(alloc, parts.nlri)?;
     Ok(Update {
         withdrawn,
         attributes,

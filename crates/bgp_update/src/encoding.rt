@@ -117,7 +117,7 @@ fn unreach_of(alloc: Global, routes: &List<Nlri>) -> Result<Bytes, OutOfMemory>
 }
 
 /// The bytes of an attribute's value, without its flags, kind and length.
-pub fn value_of(alloc: Global, attribute: &Attribute) -> Result<Bytes, OutOfMemory>
+fn value_of(alloc: Global, attribute: &Attribute) -> Result<Bytes, OutOfMemory>
     requires { AttributeFits attribute.now }
     ensures { IfOk result (λ value. value ≡ body_bytes attribute.now.body) }
 {

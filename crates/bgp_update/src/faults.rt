@@ -22,10 +22,10 @@ impl From<OutOfMemory> for UpdateFault {
 }
 
 /// The error code of an UPDATE (RFC 4271, section 4.5).
-const UPDATE_MESSAGE_ERROR: u8 = 3;
+pub const UPDATE_MESSAGE_ERROR: u8 = 3;
 
 /// Its subcode for what can't be cut into attributes and routes (RFC 4271, section 6.3).
-const MALFORMED_ATTRIBUTE_LIST: u8 = 1;
+pub const MALFORMED_ATTRIBUTE_LIST: u8 = 1;
 
 /// The fault that is told of the place.
 pub(crate) fn malformed(place: u64) -> UpdateFault

@@ -12,6 +12,8 @@
 //!
 //! - `decode_update` answers the value that the bytes spell (`IsUpdate`), or the first fault and its place (`Refused`).
 //! - `encode_update` writes the one spelling of an update, so each undoes the other.
+//! - `attributes_in` finds the bytes of the attributes of a content without memory (`HasUpdate`), or the same refusal, and
+//!   `attribute_at` cuts one attribute from the next.
 //! - `Update::broken` is that the first attribute of extended communities is none.
 //! - `Nlri::same` and `Nlri::copy` compare and copy a route.
 //! - Two readings of the same bytes are one (`one_reading`), and there always is one (`every_content_is_read_or_refused`).
@@ -28,22 +30,26 @@
 
 mod attributes;
 mod bodies;
+mod checking;
 mod communities;
 mod decoding;
 mod encoding;
 mod faults;
 mod laws;
 mod nlri_lists;
+mod parts;
 mod pieces;
 mod reach;
 mod routes;
 mod updates;
 
 pub use attributes::{Attribute, Body, MpReach, MpUnreach};
+pub use checking::attributes_in;
 pub use decoding::decode_update;
-pub use encoding::{encode_update, value_of};
-pub use faults::UpdateFault;
+pub use encoding::encode_update;
+pub use faults::{MALFORMED_ATTRIBUTE_LIST, UPDATE_MESSAGE_ERROR, UpdateFault};
 pub use laws::{every_content_is_read_or_refused, one_reading};
+pub use pieces::{AttributePiece, attribute_at};
 pub use routes::Nlri;
 pub use updates::Update;
 pub use wire_base::NextHop;

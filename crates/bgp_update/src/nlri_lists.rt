@@ -19,10 +19,10 @@ const SFPR_SIZE: usize = 11;
 
 /// A route at the front of the bytes, its body unread.
 #[derive(Clone, Copy)]
-struct RoutePiece<'a> {
+pub(crate) struct RoutePiece<'a> {
     kind: u16,
     body: &'a [u8],
-    rest: &'a [u8],
+    pub(crate) rest: &'a [u8],
 }
 
 /// Cuts the first route off: a type, the length of a body, the body. None exactly where it runs past the end.
@@ -54,7 +54,7 @@ fn has_size(kind: u16, size: usize) -> bool
 }
 
 /// Cuts the first route off. None exactly where it does not stand there whole, with the length of its type.
-fn route_piece(bytes: &[u8]) -> Option<RoutePiece<'_>>
+pub(crate) fn route_piece(bytes: &[u8]) -> Option<RoutePiece<'_>>
     ensures { MatchOption result (BadNlri bytes.now) (λ p. SplitsRoute bytes.now p.kind p.body.now p.rest.now) }
 {
     let piece = cut_of(bytes)?;

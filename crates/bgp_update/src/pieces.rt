@@ -5,11 +5,14 @@ use wire_base::be_u16;
 
 /// An attribute at the front of the bytes, its value unread.
 #[derive(Clone, Copy)]
-pub(crate) struct Piece<'a> {
-    pub(crate) flags: u8,
-    pub(crate) kind: u8,
-    pub(crate) value: &'a [u8],
-    pub(crate) rest: &'a [u8],
+pub struct AttributePiece<'a> {
+    /// The flags, as `Attribute` has them.
+    pub flags: u8,
+    /// The attribute type code.
+    pub kind: u8,
+    pub value: &'a [u8],
+    /// What stands behind it.
+    pub rest: &'a [u8],
 }
 
 /// Flag 0x10: the length has 2 bytes (RFC 4271, section 4.3).
@@ -26,7 +29,7 @@ pub(crate) fn header_of(flags: u8) -> u64
     if is_long(flags) { 4 } else { 3 }
 }
 
-fn short_piece(bytes: &[u8]) -> Option<Piece<'_>>
+fn short_piece(bytes: &[u8]) -> Option<AttributePiece<'_>>
     requires { ((slice_index bytes.now 0 / 16) % 2 == 1) ≡ false }
     ensures { MatchOption result (RunsPast bytes.now) (λ p. Splits bytes.now p.flags p.kind p.value.now p.rest.now) }
 {
@@ -39,7 +42,7 @@ fn short_piece(bytes: &[u8]) -> Option<Piece<'_>>
         return None;
     }
     let (value, rest) = after.split_at(size);
-    Some(Piece {
+    Some(AttributePiece {
         flags,
         kind,
         value,
@@ -47,7 +50,7 @@ fn short_piece(bytes: &[u8]) -> Option<Piece<'_>>
     })
 }
 
-fn long_piece(bytes: &[u8]) -> Option<Piece<'_>>
+fn long_piece(bytes: &[u8]) -> Option<AttributePiece<'_>>
     requires { ((slice_index bytes.now 0 / 16) % 2 == 1) ≡ true }
     ensures { MatchOption result (RunsPast bytes.now) (λ p. Splits bytes.now p.flags p.kind p.value.now p.rest.now) }
 {
@@ -60,7 +63,7 @@ fn long_piece(bytes: &[u8]) -> Option<Piece<'_>>
         return None;
     }
     let (value, rest) = after.split_at(size);
-    Some(Piece {
+    Some(AttributePiece {
         flags,
         kind,
         value,
@@ -68,11 +71,14 @@ fn long_piece(bytes: &[u8]) -> Option<Piece<'_>>
     })
 }
 
-/// Cuts the first attribute off: flags, kind, the length of a value, the value. None exactly where it runs past the end.
-pub(crate) fn piece_of(bytes: &[u8]) -> Option<Piece<'_>>
-    requires { 0 < length bytes.now }
+/// Cuts the first attribute off: flags, kind, the length of a value, the value. None exactly where it runs past the end, or there
+/// is none.
+pub fn attribute_at(bytes: &[u8]) -> Option<AttributePiece<'_>>
     ensures { MatchOption result (RunsPast bytes.now) (λ p. Splits bytes.now p.flags p.kind p.value.now p.rest.now) }
 {
+    if bytes.is_empty() {
+        return None;
+    }
     if is_long(bytes[0]) {
         long_piece(bytes)
     } else {

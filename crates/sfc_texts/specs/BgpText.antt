@@ -71,10 +71,14 @@ attribute_name kind =
     else if kind == 37 then codes "sfp"
     else decimal kind
 
--- an attribute: its flags in two digits, its name and its value
+-- flags in two digits, a name and the bytes of a value
+abbrev pub value_line : ℕ → ℕ → List ℕ → List ℕ
+value_line flags kind value =
+    codes "attribute " ++ hexadecimal (flags ∷ []) ++ codes " " ++ attribute_name kind ++ octets_field (codes " ") value ++ line_end
+
+-- an attribute: its flags, its name and its value
 abbrev pub attribute_line : Attribute → List ℕ
-attribute_line a =
-    codes "attribute " ++ hexadecimal (a.flags ∷ []) ++ codes " " ++ attribute_name a.kind ++ octets_field (codes " ") (body_bytes a.body) ++ line_end
+attribute_line a = value_line a.flags a.kind (body_bytes a.body)
 
 -- an update, and each of its attributes in order
 abbrev pub update_lines : Update → List ℕ

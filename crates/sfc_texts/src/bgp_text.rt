@@ -1,19 +1,22 @@
 //! The lines that show a stream of BGP messages.
 
-ghost use Rattle.std.specs.Prelude.{◌≡◌, ◌≤◌, ◌<◌, ◌+◌, ◌^◌, ◌++◌, length, codes, None, OnOk, IfOk};
+ghost use Rattle.std.specs.Prelude.{◌≡◌, ℕ, List, ◌≤◌, ◌<◌, ◌+◌, ◌^◌, ◌++◌, length, codes, None, OnOk, IfOk};
 ghost use Rattle.std.specs.List.{flat_map, AllByRecursion};
 ghost use Rattle.bgp_messages.specs.Opens.{capabilities_of};
 ghost use Rattle.bgp_messages.specs.Messages.{content};
-ghost use Rattle.bgp_update.specs.Attributes.{body_bytes, AttributeFits};
-ghost use Rattle.bgp_update.specs.Updates.{UpdateFits};
+ghost use Rattle.bgp_update.specs.declared.attributes.Attribute.{Attribute};
+ghost use Rattle.bgp_update.specs.Attributes.{attributes_bytes, AttributeFits};
+ghost use Rattle.bgp_update.specs.Checks.{HasUpdate};
 ghost use Rattle.text_words.specs.Hexadecimal.{hexadecimal, octets_or_dash};
 ghost use Rattle.sfc_texts.specs.NshText.{field, line_end, octets_field};
-ghost use Rattle.sfc_texts.specs.BgpText.{capability_text, further_capability, capabilities_text, identifier_text, open_line, keep_alive_line, notification_line, attribute_name, attribute_line, update_lines, refused_line, rest_line};
-ghost use Rattle.sfc_texts.specs.BgpSteps.{UpdateShown, MessageShown, NextShown};
+ghost use Rattle.sfc_texts.specs.BgpText.{capability_text, further_capability, capabilities_text, identifier_text, open_line, keep_alive_line, notification_line, attribute_name, value_line, attribute_line, refused_line, rest_line};
+ghost use Rattle.sfc_texts.specs.BgpSteps.{AppendsUpdate, UpdateShown, MessageShown, NextShown};
 
 use crate::nsh_text::{print_field, print_octets_field};
 use bgp_messages::{BgpFeed, Capability, Message, NextFault, Notice, Open, Param};
-use bgp_update::{Attribute, Body, Update, UpdateFault, decode_update, value_of};
+use bgp_update::{
+    AttributePiece, MALFORMED_ATTRIBUTE_LIST, UPDATE_MESSAGE_ERROR, attribute_at, attributes_in,
+};
 use std::alloc::Global;
 use text_words::{print_dotted, print_number, print_octets};
 use wire_base::{Bytes, Fixed, OutOfMemory};
@@ -120,53 +123,37 @@ fn print_attribute_name(out: &mut Bytes, kind: u8) -> Result<(), OutOfMemory>
     }
 }
 
-/// Appends the digits of an attribute's value. One that is kept unread is not copied.
-fn print_value(alloc: Global, out: &mut Bytes, attribute: &Attribute) -> Result<(), OutOfMemory>
-    requires { AttributeFits attribute.now }
-    ensures { OnOk result (out.new ≡ out.old ++ octets_field (codes " ") (body_bytes attribute.now.body)) }
-{
-    if let Body::Raw(value) = &attribute.body {
-        return print_octets_field(out, b" ", value.as_slice());
-    }
-    let value = value_of(alloc, attribute)?;
-    print_octets_field(out, b" ", value.as_slice())
-}
-
 /// Appends the line of an attribute.
-fn print_attribute(alloc: Global, out: &mut Bytes, attribute: &Attribute) -> Result<(), OutOfMemory>
-    requires { AttributeFits attribute.now }
-    ensures { OnOk result (out.new ≡ out.old ++ attribute_line attribute.now) }
+fn print_attribute(out: &mut Bytes, piece: &AttributePiece<'_>) -> Result<(), OutOfMemory>
+    ensures { OnOk result (out.new ≡ out.old ++ value_line piece.now.flags piece.now.kind piece.now.value.now) }
 {
     out.push_all(b"attribute ")?;
-    print_octets(out, &[attribute.flags])?;
+    print_octets(out, &[piece.flags])?;
     out.push_all(b" ")?;
-    print_attribute_name(out, attribute.kind)?;
-    print_value(alloc, out, attribute)?;
+    print_attribute_name(out, piece.kind)?;
+    print_octets_field(out, b" ", piece.value)?;
     out.push_all(b"\n")
 }
 
-/// Appends the lines of attributes.
-fn print_attributes(
-    alloc: Global,
-    out: &mut Bytes,
-    attributes: &[Attribute],
-) -> Result<(), OutOfMemory>
-    requires { AllByRecursion AttributeFits attributes.now }
-    ensures { OnOk result (out.new ≡ out.old ++ flat_map attribute_line attributes.now) }
+/// Appends the lines of the attributes that fill the bytes.
+fn print_attributes(out: &mut Bytes, bytes: &[u8]) -> Result<(), OutOfMemory>
+    ensures { (list : List Attribute) → AllByRecursion AttributeFits list → bytes.now ≡ attributes_bytes list
+        → OnOk result (out.new ≡ out.old ++ flat_map attribute_line list) }
 {
-    for attribute in attributes {
-        print_attribute(alloc, out, attribute)?;
+    let mut rest = bytes;
+    while let Some(piece) = attribute_at(rest) {
+        print_attribute(out, &piece)?;
+        rest = piece.rest;
     }
     Ok(())
 }
 
-/// Appends the lines of an update.
-fn print_update(alloc: Global, out: &mut Bytes, update: &Update) -> Result<(), OutOfMemory>
-    requires { UpdateFits update.now }
-    ensures { OnOk result (out.new ≡ out.old ++ update_lines update.now) }
+/// Appends the lines of the update whose attributes fill the bytes.
+fn print_update(out: &mut Bytes, attributes: &[u8]) -> Result<(), OutOfMemory>
+    ensures { (content : List ℕ) → HasUpdate content attributes.now → OnOk result (AppendsUpdate content out.old out.new) }
 {
     out.push_all(b"update\n")?;
-    print_attributes(alloc, out, update.attributes.as_slice())
+    print_attributes(out, attributes)
 }
 
 /// Appends the line of a refusal.
@@ -201,21 +188,21 @@ pub(crate) enum Step {
     Over,
 }
 
-/// Appends the lines of an UPDATE, whose message begins at the place, or of its refusal.
-fn show_update(alloc: Global, out: &mut Bytes, place: u64, body: &[u8]) -> Result<Step, OutOfMemory>
-    requires { place + 19 + length body.now < 2 ^ 64 }
-    ensures { UpdateShown place body.now out.old out.new result }
+/// Appends the lines of an UPDATE, whose message begins at the place, or of its refusal. Nothing of it is copied.
+fn show_update(out: &mut Bytes, place: u64, content: &[u8]) -> Result<Step, OutOfMemory>
+    requires { place + 19 + length content.now < 2 ^ 64 }
+    ensures { UpdateShown place content.now out.old out.new result }
 {
-    match decode_update(alloc, body) {
-        Ok(update) => {
-            print_update(alloc, out, &update)?;
+    match attributes_in(content) {
+        Ok(attributes) => {
+            print_update(out, attributes)?;
             Ok(Step::Message)
         }
-        Err(UpdateFault::Session(code, subcode, inside)) => {
-            print_refused(out, code, subcode, place + HEADER + inside)?;
+        Err(inside) => {
+            let told = place + HEADER + inside;
+            print_refused(out, UPDATE_MESSAGE_ERROR, MALFORMED_ATTRIBUTE_LIST, told)?;
             Ok(Step::Over)
         }
-        Err(UpdateFault::OutOfMemory) => Err(OutOfMemory),
     }
 }
 
@@ -231,7 +218,7 @@ fn show_message(
 {
     match message {
         Message::Open(opening) => print_open(alloc, out, opening)?,
-        Message::Update(body) => return show_update(alloc, out, place, body.as_slice()),
+        Message::Update(body) => return show_update(out, place, body.as_slice()),
         Message::Notification(notice) => print_notification(out, notice)?,
         Message::KeepAlive => out.push_all(b"keepalive\n")?,
     }

@@ -2,7 +2,7 @@
 use Rattle.std.proofs.Common.{◌≡◌, length, ◌++◌, ◌≤◌, drop, ◌∙◌, ap, arith}
 use Rattle.std.proofs.lemmas.List.{take_rest, length-append, length-drop}
 use Rattle.bgp_update.proofs.CellLemmas.{opening_spelled}
-use Rattle.bgp_update.proofs.decoding.opening_of.Goals as goal
+use Rattle.bgp_update.proofs.parts.opening_of.Goals as goal
 
 pub returns : goal.returns
 returns c =
