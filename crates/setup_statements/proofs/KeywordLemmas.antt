@@ -1,5 +1,11 @@
--- One keyword a word.
-use Rattle.std.proofs.Common.{◌≡◌, ℕ, ◌+◌, ◌*◌, List, length, get_or, ap, refl, arith}
+-- One keyword a word, and the words of functions are text.
+use Rattle.std.proofs.Common.{◌≡◌, ℕ, ◌+◌, ◌*◌, true, nat_lt, List, length, get_or, ap, refl, arith}
+use Rattle.std.specs.Prelude.{IsUtf8}
+use Rattle.std.specs.List.{list_all}
+use Rattle.std.proofs.lemmas.Bool.Decides.{Decides-ltb}
+use Rattle.std.proofs.lemmas.List.Sums.{AllPass-from_list_all}
+use Rattle.std.proofs.lemmas.Str.{IsUtf8-from_ascii}
+use Rattle.std.proofs.lemmas.Str.Ascii.{IsAscii-from_all}
 use Rattle.setup_statements.specs.declared.keywords.Keyword.{Keyword}
 use Rattle.setup_statements.specs.declared.keywords.Keyword.TheVariants as keyword
 use Rattle.setup_statements.specs.declared.keywords.FunctionWord.{FunctionWord}
@@ -32,3 +38,20 @@ one_function_word function.Stamp function.Stamp e = refl
 one_function_word function.RequireMeta function.RequireMeta e = refl
 one_function_word function.ClearMeta function.ClearMeta e = refl
 one_function_word a b e = absurd (omega (arith, differ _ _ e))
+
+text_of_low : (w : List ℕ) → list_all (λ b. nat_lt b 128) w ≡ true → IsUtf8 w
+text_of_low w h =
+    let low = AllPass-from_list_all (λ b. nat_lt b 128) w h in
+    IsUtf8-from_ascii w (IsAscii-from_all w (λ k d lt. (Decides-ltb _ 128).0 (low k d lt)))
+
+pub function_word_is_text : (f : FunctionWord) → IsUtf8 (function_word_text f)
+function_word_is_text function.Pass = text_of_low _ refl
+function_word_is_text function.Firewall = text_of_low _ refl
+function_word_is_text function.Remark = text_of_low _ refl
+function_word_is_text function.Nat = text_of_low _ refl
+function_word_is_text function.HopLimit = text_of_low _ refl
+function_word_is_text function.PushVlan = text_of_low _ refl
+function_word_is_text function.PopVlan = text_of_low _ refl
+function_word_is_text function.Stamp = text_of_low _ refl
+function_word_is_text function.RequireMeta = text_of_low _ refl
+function_word_is_text function.ClearMeta = text_of_low _ refl

@@ -7,10 +7,12 @@ ghost use Rattle.text_words.specs.Addresses.{dotted, address_text};
 ghost use Rattle.setup_statements.specs.declared.statements.Statement.TheVariants as statement;
 ghost use Rattle.service_functions.specs.declared.functions.Function.TheVariants as function;
 ghost use Rattle.classifier.specs.declared.rules.Action.TheVariants as action;
+ghost use Rattle.setup_statements.specs.Keywords.{function_word_text};
 ghost use Rattle.setup_statements.specs.FunctionText.{port_protocol, side_text, function_words};
 ghost use Rattle.setup_statements.specs.RuleText.{star_or, prefix_text, protocol_text, ports_text, context_text, action_words};
 ghost use Rattle.setup_statements.specs.Statements.{octets_of, mode_text, said, ended_line};
 
+use crate::keywords::FunctionWord;
 use crate::statements::Bound;
 use arrayvec::ArrayVec;
 use bgp_session::Local;
@@ -96,10 +98,17 @@ fn side_word(side: Side) -> &'static [u8]
     }
 }
 
+/// Appends a space and the word of a function.
+fn say_function_word(out: &mut Bytes, word: FunctionWord) -> Result<(), OutOfMemory>
+    ensures { OnOk result (out.new ≡ out.old ++ 32 ∷ function_word_text word) }
+{
+    say(out, word.text().as_bytes())
+}
+
 fn say_firewall(out: &mut Bytes, protocol: u8, low: u16, high: u16) -> Result<(), OutOfMemory>
     ensures { OnOk result (out.new ≡ said out.old (function_words (function.Firewall protocol low high))) }
 {
-    say(out, b"firewall")?;
+    say_function_word(out, FunctionWord::Firewall)?;
     say(out, port_protocol_word(protocol))?;
     say_number(out, u64::from(low))?;
     say_number(out, u64::from(high))?;
@@ -109,7 +118,7 @@ fn say_firewall(out: &mut Bytes, protocol: u8, low: u16, high: u16) -> Result<()
 fn say_remark(out: &mut Bytes, dscp: u8) -> Result<(), OutOfMemory>
     ensures { OnOk result (out.new ≡ said out.old (function_words (function.Remark dscp))) }
 {
-    say(out, b"remark")?;
+    say_function_word(out, FunctionWord::Remark)?;
     say_number(out, u64::from(dscp))?;
     Ok(())
 }
@@ -117,7 +126,7 @@ fn say_remark(out: &mut Bytes, dscp: u8) -> Result<(), OutOfMemory>
 fn say_nat(out: &mut Bytes, side: Side, from: &Fixed<4>, to: &Fixed<4>) -> Result<(), OutOfMemory>
     ensures { OnOk result (out.new ≡ said out.old (function_words (function.Nat side from.now to.now))) }
 {
-    say(out, b"nat")?;
+    say_function_word(out, FunctionWord::Nat)?;
     say(out, side_word(side))?;
     say_dotted(out, from)?;
     say_dotted(out, to)?;
@@ -127,7 +136,7 @@ fn say_nat(out: &mut Bytes, side: Side, from: &Fixed<4>, to: &Fixed<4>) -> Resul
 fn say_push_vlan(out: &mut Bytes, vid: u16) -> Result<(), OutOfMemory>
     ensures { OnOk result (out.new ≡ said out.old (function_words (function.PushVlan vid))) }
 {
-    say(out, b"push-vlan")?;
+    say_function_word(out, FunctionWord::PushVlan)?;
     say_number(out, u64::from(vid))?;
     Ok(())
 }
@@ -149,7 +158,7 @@ fn say_stamp(
 ) -> Result<(), OutOfMemory>
     ensures { OnOk result (out.new ≡ said out.old (function_words (function.Stamp class kind body.now))) }
 {
-    say(out, b"stamp")?;
+    say_function_word(out, FunctionWord::Stamp)?;
     say_four_digits(out, class)?;
     say_number(out, u64::from(kind))?;
     say_body(out, body)?;
@@ -159,7 +168,7 @@ fn say_stamp(
 fn say_require_meta(out: &mut Bytes, class: u16, kind: u8) -> Result<(), OutOfMemory>
     ensures { OnOk result (out.new ≡ said out.old (function_words (function.RequireMeta class kind))) }
 {
-    say(out, b"require-meta")?;
+    say_function_word(out, FunctionWord::RequireMeta)?;
     say_four_digits(out, class)?;
     say_number(out, u64::from(kind))?;
     Ok(())
@@ -170,7 +179,7 @@ pub(crate) fn say_function(out: &mut Bytes, function: &Function) -> Result<(), O
     ensures { OnOk result (out.new ≡ said out.old (function_words function.now)) }
 {
     match function {
-        Function::Pass => say(out, b"pass"),
+        Function::Pass => say_function_word(out, FunctionWord::Pass),
         Function::Firewall {
             protocol,
             low,
@@ -178,12 +187,12 @@ pub(crate) fn say_function(out: &mut Bytes, function: &Function) -> Result<(), O
         } => say_firewall(out, *protocol, *low, *high),
         Function::Remark(dscp) => say_remark(out, *dscp),
         Function::Nat { side, from, to } => say_nat(out, *side, from, to),
-        Function::HopLimit => say(out, b"hoplimit"),
+        Function::HopLimit => say_function_word(out, FunctionWord::HopLimit),
         Function::PushVlan(vid) => say_push_vlan(out, *vid),
-        Function::PopVlan => say(out, b"pop-vlan"),
+        Function::PopVlan => say_function_word(out, FunctionWord::PopVlan),
         Function::Stamp { class, kind, body } => say_stamp(out, *class, *kind, body),
         Function::RequireMeta { class, kind } => say_require_meta(out, *class, *kind),
-        Function::ClearMeta => say(out, b"clear-meta"),
+        Function::ClearMeta => say_function_word(out, FunctionWord::ClearMeta),
     }
 }
 
