@@ -1,0 +1,5 @@
+pub mod CourseLemmas
+pub mod HistoryLemmas
+pub mod GroupLemmas
+pub mod OneRun
+pub mod FitLemmas

@@ -1,0 +1,14 @@
+pub mod Sides
+pub mod Spoken
+pub mod KnownRoutes
+pub mod Outcomes
+pub mod Tables
+pub mod Timers
+pub mod Readings
+pub mod Events
+pub mod Histories
+pub mod Feeds
+pub mod Courses
+pub mod Sessions
+pub mod Peers
+pub mod Groups

@@ -1,0 +1,12 @@
+use crate::events::Effects;
+use crate::groups::Sessions;
+use crate::machines::Session;
+
+fn crosses<T: Send + Sync + Drop>() {}
+
+/// Shows that the types of this crate may be handed to and shared with threads, as soon as it compiles.
+pub fn types_cross_threads() {
+    crosses::<Session>();
+    crosses::<Sessions>();
+    crosses::<Effects>();
+}
