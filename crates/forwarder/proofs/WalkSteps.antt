@@ -24,6 +24,7 @@ use Rattle.record_text.specs.declared.records.Record.{Record}
 use Rattle.forwarder.specs.Stations.{Station}
 use Rattle.forwarder.specs.Walks.{Ends, Follows, GoesOn, IsSpent, Outcome, Turn, Walk, WalkFrom, function_by}
 use Rattle.forwarder.specs.Records.{Looks, numbers}
+use Rattle.forwarder.specs.Traces.{IsPacket, KeepsTrace, Traced, TracesFrom, with_packet}
 use Rattle.forwarder.specs.Kept.{Stands, WalkedFrom}
 use Rattle.forwarder.proofs.LookLemmas.{look_more}
 use Rattle.forwarder.proofs.VisitLemmas.{room-Through, through_more}
@@ -68,9 +69,48 @@ nears functions s next (At at other instance) (inr follows) =
       visits = omega (arith, length-append s.visits (instance ∷ []));
     })
 
+-- ---- what a turn adds to a trace
+
+pub record TraceStep (trace trace' : Traced) (s next : Station) : Type 0 where
+  pub kept : trace'.kept ≡ trace.kept
+  pub grows : trace.kept ≡ true → (new : List (List ℕ)) × (trace'.packets ≡ trace.packets ++ new) × ((later : List Station) (more : List (List ℕ)) → TracesFrom next later more → TracesFrom s (next ∷ later) (new ++ more))
+  pub none : trace.kept ≡ false → trace'.packets ≡ trace.packets
+  pub few : length trace'.packets ≤ length trace.packets + 1
+
+-- nothing, where the packet stays
+pub same_step : (trace : Traced) (s next : Station) → next.forwarder ≡ s.forwarder → TraceStep trace trace s next
+same_step trace s next same = record {
+  kept = refl;
+  grows = λ kept. ([], sym (append-nil trace.packets), λ later more t. inl (same, t));
+  none = λ kept. refl;
+  few = omega arith;
+}
+
+kept_by : (b : Bool) (trace trace' : Traced) (s next : Station) (packet : List ℕ) → trace.kept ≡ b → trace' ≡ cond b (record trace { packets = trace.packets ++ packet ∷ [] }) trace
+    → next.forwarder ≢ s.forwarder → IsPacket s.forwarder next.forwarder next.header next.frame.bytes packet → TraceStep trace trace' s next
+kept_by true trace trace' s next packet b-is is other is-packet =
+    let longer : trace'.packets ≡ trace.packets ++ packet ∷ [] = ap (λ (t : Traced). t.packets) is in
+    record {
+      kept = ap (λ (t : Traced). t.kept) is;
+      grows = λ kept. (packet ∷ [], longer, λ later more t. inr (other, packet, more, refl, is-packet, t));
+      none = λ kept. absurd (cc);
+      few = omega (arith, ap length longer, length-append trace.packets (packet ∷ []));
+    }
+kept_by false trace trace' s next packet b-is is other is-packet = record {
+  kept = ap (λ (t : Traced). t.kept) is;
+  grows = λ kept. absurd (cc);
+  none = λ kept. ap (λ (t : Traced). t.packets) is;
+  few = omega (arith, ap (λ (t : Traced). length t.packets) is);
+}
+
+-- the packet, where it is handed on
+pub handed_step : (trace trace' : Traced) (s next : Station) (packet : List ℕ) → trace' ≡ with_packet trace packet → next.forwarder ≢ s.forwarder
+    → IsPacket s.forwarder next.forwarder next.header next.frame.bytes packet → TraceStep trace trace' s next
+handed_step trace trace' s next packet is other is-packet = kept_by trace.kept trace trace' s next packet refl is other is-packet
+
 -- ---- a walk on its way
 
-pub record SoFar (functions : List Function) (first : Station) (spi : ℕ) (known : List Published) (before after : ℕ) (versions : List ℕ) (visits : List InstanceId) (forwarder : ForwarderId) (frame : Captured) (bytes : List ℕ) (size : ℕ) : Type 0 where
+pub record SoFar (functions : List Function) (first : Station) (spi : ℕ) (known : List Published) (before after : ℕ) (versions : List ℕ) (visits : List InstanceId) (forwarder : ForwarderId) (frame : Captured) (bytes : List ℕ) (size : ℕ) (trace : Traced) : Type 0 where
   pub here : Station
   pub stands : Stands here forwarder frame bytes size
   pub visited : here.visits ≡ visits
@@ -84,14 +124,17 @@ pub record SoFar (functions : List Function) (first : Station) (spi : ℕ) (know
   pub few : length versions + here.header.head.base.ttl ≤ 63
   pub fewer : length visits ≤ length versions
   pub goes_on : (later : List Station) (more : List (List ServicePath)) (end : End) (vs : List InstanceId) → WalkFrom functions here later more end vs → WalkFrom functions first (gone ++ later) (tables ++ more) end vs
+  pub traces : trace.kept ≡ true → (later : List Station) (more : List (List ℕ)) → TracesFrom here later more → TracesFrom first (gone ++ later) (trace.packets ++ more)
+  pub untraced : trace.kept ≡ false → trace.packets ≡ []
+  pub packets : length trace.packets ≤ length versions
 
 -- the start
-pub starts : (functions : List Function) (first : Station) (spi : ℕ) (known : List Published) (before : ℕ) (versions : List ℕ) (visits : List InstanceId) (bytes : List ℕ) (size : ℕ)
+pub starts : (functions : List Function) (first : Station) (spi : ℕ) (known : List Published) (before : ℕ) (versions : List ℕ) (visits : List InstanceId) (bytes : List ℕ) (size : ℕ) (trace : Traced)
     → spi ≡ first.header.head.path.spi → versions ≡ [] → visits ≡ [] → first.visits ≡ [] → BeginsWith bytes first.header size → 1 ≤ first.header.head.base.ttl → first.header.head.base.ttl ≤ 63
-    → SoFar functions first spi known before before versions visits first.forwarder first.frame bytes size
-starts functions first spi known before versions visits bytes size spi-is no_versions no_visits none spelled some few =
+    → trace.packets ≡ [] → SoFar functions first spi known before before versions visits first.forwarder first.frame bytes size trace
+starts functions first spi known before versions visits bytes size trace spi-is no_versions no_visits none spelled some few no_packets =
     let made : first.frame ≡ Through functions (numbers first.visits) first.frame = ap (λ (l : List InstanceId). Through functions (numbers l) first.frame) (sym none) in
-    let begun : SoFar functions first spi known before before [] [] first.forwarder first.frame bytes size = record {
+    let begun : SoFar functions first spi known before before [] [] first.forwarder first.frame bytes size trace = record {
       here = first;
       stands = record { at = refl; frame_is = refl; spelled = spelled };
       visited = none;
@@ -105,15 +148,25 @@ starts functions first spi known before versions visits bytes size spi-is no_ver
       few = omega (arith, few);
       fewer = omega arith;
       goes_on = λ later more end vs walk. walk;
+      traces = λ kept later more t. subst (λ (l : List (List ℕ)). TracesFrom first later (l ++ more)) (sym no_packets) t;
+      untraced = λ kept. no_packets;
+      packets = omega (arith, ap (λ (l : List (List ℕ)). length l) no_packets);
     } in
-    subst (λ (l : List ℕ). SoFar functions first spi known before before l visits first.forwarder first.frame bytes size) (sym no_versions)
-    (subst (λ (l : List InstanceId). SoFar functions first spi known before before [] l first.forwarder first.frame bytes size) (sym no_visits) begun)
+    subst (λ (l : List ℕ). SoFar functions first spi known before before l visits first.forwarder first.frame bytes size trace) (sym no_versions)
+    (subst (λ (l : List InstanceId). SoFar functions first spi known before before [] l first.forwarder first.frame bytes size trace) (sym no_visits) begun)
 
-module _ (functions : List Function) (first : Station) (spi : ℕ) (known : List Published) (before after : ℕ) (versions : List ℕ) (visits : List InstanceId) (forwarder : ForwarderId) (frame : Captured) (bytes : List ℕ) (size : ℕ) where
+module _ (functions : List Function) (first : Station) (spi : ℕ) (known : List Published) (before after : ℕ) (versions : List ℕ) (visits : List InstanceId) (forwarder : ForwarderId) (frame : Captured) (bytes : List ℕ) (size : ℕ) (trace : Traced) where
+  -- the packets that were kept
+  trace_kept : (s : SoFar functions first spi known before after versions visits forwarder frame bytes size trace) → KeepsTrace trace.kept (first ∷ (s.gone ++ [])) trace.packets
+  trace_kept s = record {
+    whole = λ kept. subst (λ (l : List (List ℕ)). TracesFrom first (s.gone ++ []) l) (append-nil trace.packets) (s.traces kept [] [] refl);
+    none = s.untraced;
+  }
+
   -- the TTL is spent
-  pub spends : (s : SoFar functions first spi known before after versions visits forwarder frame bytes size) (r : Record) (worker : ℕ) → IsSpent s.here
+  pub spends : (s : SoFar functions first spi known before after versions visits forwarder frame bytes size trace) (r : Record) (worker : ℕ) → IsSpent s.here
       → r.worker ≡ worker → r.path ≡ Some spi → r.versions.items ≡ versions → r.visits.items ≡ visits → r.end ≡ Drop Ttl
-      → WalkedFrom functions first worker known before after r
+      → WalkedFrom functions first worker known before after trace r
   spends s r worker spent worker-is path-is versions-are visits-are end-is =
       let w = s.goes_on [] [] (Drop Ttl) visits (spent, refl, sym s.visited) in
       let walk : Walk = record { stations = first ∷ (s.gone ++ []); tables = s.tables; path = Some first.header.head.path.spi; visits = visits; end = Drop Ttl } in
@@ -123,10 +176,11 @@ module _ (functions : List Function) (first : Station) (spi : ℕ) (known : List
         looks = subst (λ (l : List ℕ). Looks known before l s.tables after) (sym versions-are) s.looks;
         tells = record { path = path-is ∙ ap Some s.first_spi; visits = visits-are; end = end-is };
         worker_is = worker-is;
+        traces = trace_kept s;
       }
 
   -- the turn at a table's answer
-  pub turn_at : (s : SoFar functions first spi known before after versions visits forwarder frame bytes size) (now : List Published) (asked_si : ℕ) (found : Found) (outcome : Outcome)
+  pub turn_at : (s : SoFar functions first spi known before after versions visits forwarder frame bytes size trace) (now : List Published) (asked_si : ℕ) (found : Found) (outcome : Outcome)
       → (IsSpent s.here → ⊥) → asked_si ≡ s.here.header.head.path.si → Answers now spi asked_si found → Follows functions s.here found.answer outcome
       → (table : List ServicePath) × (table_at now found.version ≡ Some table) × Turn functions table s.here outcome
   turn_at s now asked_si found outcome alive si-is answers follows = (
@@ -142,10 +196,10 @@ module _ (functions : List Function) (first : Station) (spi : ℕ) (known : List
   )
 
   -- it ends the walk
-  pub ends : (s : SoFar functions first spi known before after versions visits forwarder frame bytes size) (r : Record) (worker : ℕ) (now : List Published) (later v : ℕ) (table : List ServicePath) (end : End) (vs : List InstanceId)
+  pub ends : (s : SoFar functions first spi known before after versions visits forwarder frame bytes size trace) (r : Record) (worker : ℕ) (now : List Published) (later v : ℕ) (table : List ServicePath) (end : End) (vs : List InstanceId)
       → StartsWith now known → after ≤ v → later ≡ v → r.versions.items ≡ versions ++ v ∷ [] → table_at now v ≡ Some table → Turn functions table s.here (Ends end vs)
       → r.worker ≡ worker → r.path ≡ Some spi → r.visits.items ≡ vs → r.end ≡ end
-      → WalkedFrom functions first worker now before later r
+      → WalkedFrom functions first worker now before later trace r
   ends s r worker now later v table end vs grows up is longer at turn worker-is path-is visits-are end-is =
       let walk : Walk = record { stations = first ∷ (s.gone ++ []); tables = s.tables ++ table ∷ []; path = Some first.header.head.path.spi; visits = vs; end = end } in
       record {
@@ -154,15 +208,16 @@ module _ (functions : List Function) (first : Station) (spi : ℕ) (known : List
         looks = look_more known now before after later v versions r.versions.items s.tables table s.looks grows up is longer at;
         tells = record { path = path-is ∙ ap Some s.first_spi; visits = visits-are; end = end-is };
         worker_is = worker-is;
+        traces = trace_kept s;
       }
 
   -- or leads to the next station
-  pub carries_on : (s : SoFar functions first spi known before after versions visits forwarder frame bytes size) (now : List Published) (later v : ℕ) (versions' : List ℕ) (table : List ServicePath) (next : Station)
-      (visits' : List InstanceId) (forwarder' : ForwarderId) (frame' : Captured) (bytes' : List ℕ) (size' : ℕ)
+  pub carries_on : (s : SoFar functions first spi known before after versions visits forwarder frame bytes size trace) (now : List Published) (later v : ℕ) (versions' : List ℕ) (table : List ServicePath) (next : Station)
+      (visits' : List InstanceId) (forwarder' : ForwarderId) (frame' : Captured) (bytes' : List ℕ) (size' : ℕ) (trace' : Traced)
       → StartsWith now known → after ≤ v → later ≡ v → versions' ≡ versions ++ v ∷ [] → table_at now v ≡ Some table → (turn : Turn functions table s.here (GoesOn next))
-      → Stands next forwarder' frame' bytes' size' → next.visits ≡ visits'
-      → SoFar functions first spi now before later versions' visits' forwarder' frame' bytes' size'
-  carries_on s now later v versions' table next visits' forwarder' frame' bytes' size' grows up is longer at turn stands visited =
+      → Stands next forwarder' frame' bytes' size' → next.visits ≡ visits' → TraceStep trace trace' s.here next
+      → SoFar functions first spi now before later versions' visits' forwarder' frame' bytes' size' trace'
+  carries_on s now later v versions' table next visits' forwarder' frame' bytes' size' trace' grows up is longer at turn stands visited step =
       let near = nears functions s.here next turn.answer turn.follows in
       let low = lowered_above s.here.header.head.base.ttl s.alive in
       let not_spent : lowered s.here.header.head.base.ttl ≢ 0 = turn.alive in
@@ -182,8 +237,15 @@ module _ (functions : List Function) (first : Station) (spi : ℕ) (known : List
         fewer = omega (arith, near.visits, ap length visited, ap length s.visited, len, s.fewer);
         goes_on = λ later more end vs walk.
             rw (append_assoc s.gone (next ∷ []) later, append_assoc s.tables (table ∷ []) more) (s.goes_on (next ∷ later) (table ∷ more) end vs (turn, walk));
+        traces = λ kept later more t.
+            let was : trace.kept ≡ true = sym step.kept ∙ kept in
+            let added = step.grows was in
+            subst (λ (l : List (List ℕ)). TracesFrom first ((s.gone ++ next ∷ []) ++ later) (l ++ more)) (sym added.1)
+            (rw (append_assoc s.gone (next ∷ []) later, append_assoc trace.packets added.0 more) (s.traces was (next ∷ later) (added.0 ++ more) (added.2 later more t)));
+        untraced = λ kept. let was : trace.kept ≡ false = sym step.kept ∙ kept in step.none was ∙ s.untraced was;
+        packets = omega (arith, step.few, s.packets, len);
       }
 
   -- the room of the frame stays
-  pub room_stays : (s : SoFar functions first spi known before after versions visits forwarder frame bytes size) → s.here.frame.room ≡ first.frame.room
+  pub room_stays : (s : SoFar functions first spi known before after versions visits forwarder frame bytes size trace) → s.here.frame.room ≡ first.frame.room
   room_stays s = ap (λ (f : Captured). f.room) s.made ∙ room-Through functions (numbers s.here.visits) first.frame

@@ -2,5 +2,6 @@ pub mod Stations
 pub mod Walks
 pub mod Records
 pub mod Workspaces
+pub mod Traces
 pub mod Ways
 pub mod Kept

@@ -4,9 +4,9 @@ ghost use Rattle.std.specs.Prelude.{◌≡◌, ◌-◌, ◌^◌, ◌<◌, ◌≤
 ghost use Rattle.classifier.specs.Verdicts.{IsVerdict};
 ghost use Rattle.path_selection.specs.Published.{StartsWith};
 ghost use Rattle.sfc_config.specs.Parts.{AreParts};
-ghost use Rattle.forwarder.specs.Records.{HasSeen, IsRecord, frame_after};
+ghost use Rattle.forwarder.specs.Records.{HasSeen, frame_after};
 ghost use Rattle.forwarder.specs.Walks.{functions_of};
-ghost use Rattle.forwarder.specs.Workspaces.{taken_in};
+ghost use Rattle.forwarder.specs.Workspaces.{Forwarded, taken_in};
 
 use crate::frames_in::FrameIn;
 use crate::gates::Gate;
@@ -74,10 +74,12 @@ pub fn forward<T: Tables, G: Gate>(
 
     // None exactly where a lookup was refused; else the record is that of the one walk over the tables that the lookups named.
     ensures record { MatchOption result (T.refused tables.old < T.refused tables.new) (λ r. (T.refused tables.new ≡ T.refused tables.old)
-        × IsRecord setup.now (taken_in frame.entry.bytes.now frame.entry.original) worker (T.known tables.new) (T.seen tables.old) (T.seen tables.new) r) }
-    ensures frame { IfSome result (λ r. work.new ≡ frame_after (functions_of setup.now.instances) (taken_in frame.entry.bytes.now frame.entry.original) r) }
+        × Forwarded setup.now (taken_in frame.entry.bytes.now frame.entry.original) worker (T.known tables.new) (T.seen tables.old) (T.seen tables.new) work.new r) }
+    ensures traced { work.new.traced ≡ work.old.traced }
+    ensures frame { IfSome result (λ r. work.new.frame ≡ frame_after (functions_of setup.now.instances) (taken_in frame.entry.bytes.now frame.entry.original) r) }
 {
     take_in(&mut work.frame, frame);
+    work.trace.clear();
     match setup.rules.classify(&work.frame) {
         Verdict::Path(spi, si, ttl, context) => {
             let nsh = header_of(spi, si, ttl, context);
@@ -88,6 +90,7 @@ pub fn forward<T: Tables, G: Gate>(
                 gate,
                 &mut work.frame,
                 &mut work.header,
+                &mut work.trace,
                 &nsh,
                 worker,
             )

@@ -15,7 +15,8 @@
 //! - `Workspace::new` takes all memory at once.
 //! - `forward` gives the record of a frame's walk over any `Tables`: `IsRecord` says that it is the one walk over the tables of the
 //!   versions that its lookups named (`IsWalk`), which do not fall. None comes exactly where a lookup could not be made.
-//! - `Workspace::frame` and `original` are the frame that the walk leaves (`frame_after`).
+//! - `Workspace::frame` and `original` are the frame that the walk leaves (`frame_after`), and `trace` the packets that it handed from forwarder to
+//!   forwarder (`Traces`), where the workspace was made to keep them.
 //! - Over given tables a frame has one walk (`a_frame_has_one_walk`), of at most 63 turns and 62 lookups (`a_walk_is_short`); its service
 //!   index falls at each instance that passes it (`the_index_falls`), and where its path stays the same, it visits the path's instances in
 //!   order (`a_frame_goes_straight`).
@@ -24,7 +25,7 @@
 //! is told of each lookup, for tests that hold a worker.
 //!
 //! ```text
-//! let mut work = Workspace::new(alloc)?;
+//! let mut work = Workspace::new(alloc, false)?;
 //! let record = forward(&setup, &mut still, &OpenGate, &mut work, frame, 0);
 //! let leaves = work.frame();               // where the record's end is an egress or a bypass
 //! ```
@@ -37,6 +38,7 @@ mod gates;
 mod headers;
 mod hops;
 mod laws;
+mod traces;
 mod turns;
 mod walking;
 mod workspaces;

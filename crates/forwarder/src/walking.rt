@@ -1,6 +1,6 @@
 //! Turn after turn, from a station to the end.
 
-ghost use Rattle.std.specs.Prelude.{◌≡◌, ◌-◌, ◌^◌, ◌<◌, ◌≤◌, All, length, MatchOption, IfSome, IfNone};
+ghost use Rattle.std.specs.Prelude.{◌≡◌, ◌-◌, ◌^◌, ◌<◌, ◌≤◌, [], All, length, MatchOption, IfSome, IfNone};
 ghost use Rattle.service_functions.specs.Functions.{IsFunction};
 ghost use Rattle.sfc_config.specs.Parts.{FitsMode};
 ghost use Rattle.forwarder.specs.Stations.{first_station};
@@ -11,6 +11,7 @@ ghost use Rattle.forwarder.specs.Walks.{functions_of};
 
 use crate::gates::Gate;
 use crate::headers::{age, put_header};
+use crate::traces::Trace;
 use crate::turns::{Next, reason_of, take_turn};
 use arrayvec::ArrayVec;
 use net_frames::Frame;
@@ -29,20 +30,23 @@ pub(crate) fn walk<T: Tables, G: Gate>(
     gate: &G,
     frame: &mut Frame,
     header: &mut [u8],
+    trace: &mut Trace,
     nsh: &Nsh,
     worker: u32,
 ) -> Option<Record>
     requires fit { All (λ b. IsFunction b.function) bounds.now }
     requires modes { All FitsMode bounds.now }
     requires room { length header.old ≡ 252 }
+    requires untraced { trace.old.packets ≡ [] }
     requires ttl { (1 ≤ nsh.now.head.base.ttl) × (nsh.now.head.base.ttl ≤ 63) }
     requires count { T.refused tables.old < 2 ^ 64 - 1 }
     ensures origin { T.origin tables.new ≡ T.origin tables.old }
     ensures grows { StartsWith (T.known tables.new) (T.known tables.old) }
     ensures seen { HasSeen (T.known tables.new) (T.seen tables.old) (T.seen tables.new) }
     ensures record { MatchOption result (T.refused tables.old < T.refused tables.new) (λ r. (T.refused tables.new ≡ T.refused tables.old)
-        × WalkedFrom (functions_of bounds.now) (first_station ingress frame.old nsh.now) worker (T.known tables.new) (T.seen tables.old) (T.seen tables.new) r) }
+        × WalkedFrom (functions_of bounds.now) (first_station ingress frame.old nsh.now) worker (T.known tables.new) (T.seen tables.old) (T.seen tables.new) trace.new r) }
     ensures frame { IfSome result (λ r. frame.new ≡ frame_after (functions_of bounds.now) frame.old r) }
+    ensures trace { trace.new.kept ≡ trace.old.kept }
     ensures frame_room { frame.new.room ≡ frame.old.room }
 {
     let spi = nsh.head.path.spi;
@@ -73,7 +77,10 @@ pub(crate) fn walk<T: Tables, G: Gate>(
                     end,
                 });
             }
-            Next::Handed(other) => forwarder = other,
+            Next::Handed(other) => {
+                trace.keep(forwarder, other, &header[..size], frame.bytes());
+                forwarder = other;
+            }
             Next::Passed(instance, end) => {
                 visits.push(instance);
                 size = end;

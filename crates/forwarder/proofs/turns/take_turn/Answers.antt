@@ -25,4 +25,5 @@ returns-else-eq c = λ s st. (
     spelled = index_at c.args.header.now c.set_si.new.bytes (aged s.header) c.args.size c.in-At.at st.spelled c.set_si.ensures.edit c.set_si.ensures.head;
   },
   refl,
+  λ e. eqb-false c.in-At.other.0 c.args.forwarder.0 (sym c.if-eq.ensures) (ap (λ (o : ForwarderId). o.0) (e ∙ st.at)),
 )

@@ -1,5 +1,5 @@
 -- Each turn goes on from where the walk stands, and the last one ends it.
-use Rattle.std.proofs.Common.{◌≡◌, [], ◌∷◌, ◌++◌, append-nil, refl, sym, ap, subst, ◌∙◌, arith, get_or}
+use Rattle.std.proofs.Common.{◌≡◌, ℕ, List, take, [], ◌∷◌, ◌++◌, append-nil, refl, sym, ap, subst, ◌∙◌, arith, get_or}
 use Rattle.wire_base.specs.declared.ids.ForwarderId.{ForwarderId}
 use Rattle.net_frames.specs.Captured.{Captured}
 use Rattle.nsh_metadata.specs.Header.{Header}
@@ -13,7 +13,8 @@ use Rattle.forwarder.specs.Records.{numbers, passed}
 use Rattle.forwarder.specs.Kept.{Stands}
 use Rattle.forwarder.proofs.LookLemmas.{starts_with_trans}
 use Rattle.forwarder.proofs.VisitLemmas.{last_dropped}
-use Rattle.forwarder.proofs.WalkSteps.{carries_on, ends, room_stays, spends, starts, turn_at}
+use Rattle.forwarder.specs.Traces.{outer, with_packet}
+use Rattle.forwarder.proofs.WalkSteps.{carries_on, ends, handed_step, room_stays, same_step, spends, starts, turn_at}
 use Rattle.forwarder.proofs.walking.walk.Goals as goal
 
 pub turns-init : goal.turns-init
@@ -23,26 +24,27 @@ turns-init g c = record {
   refused = refl;
   room = omega arith;
   so_far =
-      starts (functions_of c.args.bounds.now) (first_station c.args.ingress c.args.frame.now c.args.nsh.now) c.nsh.inside.head.path.spi (g.T.Tables.known c.args.tables.now) (g.T.Tables.seen c.args.tables.now) c.new-versions.result.items c.new-visits.result.items c.put_header-size.new.header c.put_header-size.result
-      (ap (λ (h : Header). h.head.path.spi) c.nsh.view_is) c.new-versions.ensures c.new-visits.ensures refl c.put_header-size.ensures c.requires.ttl.0 c.requires.ttl.1;
+      starts (functions_of c.args.bounds.now) (first_station c.args.ingress c.args.frame.now c.args.nsh.now) c.nsh.inside.head.path.spi (g.T.Tables.known c.args.tables.now) (g.T.Tables.seen c.args.tables.now) c.new-versions.result.items c.new-visits.result.items c.put_header-size.new.header c.put_header-size.result c.args.trace.now
+      (ap (λ (h : Header). h.head.path.spi) c.nsh.view_is) c.new-versions.ensures c.new-visits.ensures refl c.put_header-size.ensures c.requires.ttl.0 c.requires.ttl.1 c.requires.untraced;
+  kept = refl;
 }
 
 pub returns-then-age-eq0-clause-record : goal.returns-then-age-eq0-clause-record
 returns-then-age-eq0-clause-record g c =
     let s = c.turns.invariant.so_far in (
       c.turns.invariant.refused,
-      spends _ _ _ _ _ _ _ _ _ _ _ _ s _ c.args.worker (sym (c.age.ensures.answer s.here.header s.stands.spelled) ∙ c.if-age-eq0.true) refl refl refl refl refl,
+      spends _ _ _ _ _ _ _ _ _ _ _ _ _ s _ c.args.worker (sym (c.age.ensures.answer s.here.header s.stands.spelled) ∙ c.if-age-eq0.true) refl refl refl refl refl,
     )
 
 pub returns-then-age-eq0-clause-frame_room : goal.returns-then-age-eq0-clause-frame_room
 returns-then-age-eq0-clause-frame_room g c =
     let s = c.turns.invariant.so_far in
-    ap (λ (f : Captured). f.room) (sym s.stands.frame_is) ∙ room_stays _ _ _ _ _ _ _ _ _ _ _ _ s
+    ap (λ (f : Captured). f.room) (sym s.stands.frame_is) ∙ room_stays _ _ _ _ _ _ _ _ _ _ _ _ _ s
 
 pub returns-in_err-found-clause-frame_room : goal.returns-in_err-found-clause-frame_room
 returns-in_err-found-clause-frame_room g c =
     let s = c.turns.invariant.so_far in
-    ap (λ (f : Captured). f.room) (sym s.stands.frame_is) ∙ room_stays _ _ _ _ _ _ _ _ _ _ _ _ s
+    ap (λ (f : Captured). f.room) (sym s.stands.frame_is) ∙ room_stays _ _ _ _ _ _ _ _ _ _ _ _ _ s
 
 pub take_turn-requires-clause-spelled : goal.take_turn-requires-clause-spelled
 take_turn-requires-clause-spelled g c =
@@ -54,10 +56,10 @@ returns-in-Done-clause-record g c =
     let f = c.in_ok-found.ensures in
     let spelled = c.age.ensures.spelled s.here.header s.stands.spelled in
     let leads = c.in-Done.ensures s.here (record { at = s.stands.at; frame_is = s.stands.frame_is; spelled = spelled }) in
-    let t = turn_at _ _ _ _ _ _ _ _ _ _ _ _ s (g.T.Tables.known c.lookup.new.self) (get_or c.age.new.header 7 0) c.in_ok-found.found (Ends c.in-Done.end s.here.visits)
+    let t = turn_at _ _ _ _ _ _ _ _ _ _ _ _ _ s (g.T.Tables.known c.lookup.new.self) (get_or c.age.new.header 7 0) c.in_ok-found.found (Ends c.in-Done.end s.here.visits)
     (λ spent. c.if-age-eq0.false (c.age.ensures.answer s.here.header s.stands.spelled ∙ spent)) (begins_head c.age.new.header (aged s.here.header) c.turns.size spelled).si f.answers leads.0 in (
       f.refused ∙ c.turns.invariant.refused,
-      ends _ _ _ _ _ _ _ _ _ _ _ _ s _ c.args.worker (g.T.Tables.known c.lookup.new.self) (g.T.Tables.seen c.lookup.new.self) c.in_ok-found.found.version t.0 c.in-Done.end s.here.visits
+      ends _ _ _ _ _ _ _ _ _ _ _ _ _ s _ c.args.worker (g.T.Tables.known c.lookup.new.self) (g.T.Tables.seen c.lookup.new.self) c.in_ok-found.found.version t.0 c.in-Done.end s.here.visits
           f.grows f.version.0 f.version.1 c.push.ensures.items t.1 t.2 refl refl (sym s.visited) refl,
     )
 
@@ -70,7 +72,7 @@ returns-in-Done-clause-frame_room g c =
     let s = c.turns.invariant.so_far in
     let spelled = c.age.ensures.spelled s.here.header s.stands.spelled in
     let leads = c.in-Done.ensures s.here (record { at = s.stands.at; frame_is = s.stands.frame_is; spelled = spelled }) in
-    ap (λ (f : Captured). f.room) leads.1 ∙ room_stays _ _ _ _ _ _ _ _ _ _ _ _ s
+    ap (λ (f : Captured). f.room) leads.1 ∙ room_stays _ _ _ _ _ _ _ _ _ _ _ _ _ s
 
 pub turns-preserved-in-Handed : goal.turns-preserved-in-Handed
 turns-preserved-in-Handed g c =
@@ -79,15 +81,24 @@ turns-preserved-in-Handed g c =
     let f = c.in_ok-found.ensures in
     let spelled = c.age.ensures.spelled s.here.header s.stands.spelled in
     let leads = c.in-Handed.ensures s.here (record { at = s.stands.at; frame_is = s.stands.frame_is; spelled = spelled }) in
-    let t = turn_at _ _ _ _ _ _ _ _ _ _ _ _ s (g.T.Tables.known c.lookup.new.self) (get_or c.age.new.header 7 0) c.in_ok-found.found (GoesOn leads.0)
+    let t = turn_at _ _ _ _ _ _ _ _ _ _ _ _ _ s (g.T.Tables.known c.lookup.new.self) (get_or c.age.new.header 7 0) c.in_ok-found.found (GoesOn leads.0)
     (λ spent. c.if-age-eq0.false (c.age.ensures.answer s.here.header s.stands.spelled ∙ spent)) (begins_head c.age.new.header (aged s.here.header) c.turns.size spelled).si f.answers leads.1 in
+    let next = leads.0 in
+    let spelling : List ℕ = take c.turns.size c.take_turn.new.header in
+    let packet : List ℕ = outer next.forwarder s.here.forwarder ++ (spelling ++ next.frame.bytes) in
+    let there : next.forwarder ≡ c.in-Handed.other = leads.2.at in
+    let from : s.here.forwarder ≡ c.turns.forwarder = s.stands.at in
+    let same_frame : next.frame ≡ c.take_turn.new.frame = leads.2.frame_is in
+    let kept : c.keep.new.self ≡ with_packet c.turns.trace packet = cc (c.keep.ensures) in
+    let step = handed_step c.turns.trace c.keep.new.self s.here next packet kept (λ e. leads.4 (sym there ∙ e)) (record { spelling = spelling; spelled = leads.2.spelled.spelled; whole = refl }) in
     record {
       origin = f.origin ∙ was.origin;
       grows = starts_with_trans _ _ _ f.grows was.grows;
       refused = f.refused ∙ was.refused;
       room = omega arith;
-      so_far = carries_on _ _ _ _ _ _ _ _ _ _ _ _ s (g.T.Tables.known c.lookup.new.self) (g.T.Tables.seen c.lookup.new.self) c.in_ok-found.found.version c.push.new.self.items t.0 leads.0 c.turns.visits.items c.in-Handed.other c.take_turn.new.frame c.take_turn.new.header c.turns.size
-          f.grows f.version.0 f.version.1 c.push.ensures.items t.1 t.2 leads.2 (leads.3 ∙ s.visited);
+      so_far = carries_on _ _ _ _ _ _ _ _ _ _ _ _ _ s (g.T.Tables.known c.lookup.new.self) (g.T.Tables.seen c.lookup.new.self) c.in_ok-found.found.version c.push.new.self.items t.0 leads.0 c.turns.visits.items c.in-Handed.other c.take_turn.new.frame c.take_turn.new.header c.turns.size c.keep.new.self
+          f.grows f.version.0 f.version.1 c.push.ensures.items t.1 t.2 leads.2 (leads.3 ∙ s.visited) step;
+      kept = step.kept ∙ was.kept;
     }
 
 pub turns-preserved : goal.turns-preserved
@@ -97,16 +108,17 @@ turns-preserved g c =
     let f = c.in_ok-found.ensures in
     let spelled = c.age.ensures.spelled s.here.header s.stands.spelled in
     let leads = c.in-Passed.ensures s.here (record { at = s.stands.at; frame_is = s.stands.frame_is; spelled = spelled }) in
-    let t = turn_at _ _ _ _ _ _ _ _ _ _ _ _ s (g.T.Tables.known c.lookup.new.self) (get_or c.age.new.header 7 0) c.in_ok-found.found (GoesOn leads.0)
+    let t = turn_at _ _ _ _ _ _ _ _ _ _ _ _ _ s (g.T.Tables.known c.lookup.new.self) (get_or c.age.new.header 7 0) c.in_ok-found.found (GoesOn leads.0)
     (λ spent. c.if-age-eq0.false (c.age.ensures.answer s.here.header s.stands.spelled ∙ spent)) (begins_head c.age.new.header (aged s.here.header) c.turns.size spelled).si f.answers leads.1 in
     record {
       origin = f.origin ∙ was.origin;
       grows = starts_with_trans _ _ _ f.grows was.grows;
       refused = f.refused ∙ was.refused;
       room = omega arith;
-      so_far = carries_on _ _ _ _ _ _ _ _ _ _ _ _ s (g.T.Tables.known c.lookup.new.self) (g.T.Tables.seen c.lookup.new.self) c.in_ok-found.found.version c.push.new.self.items t.0 leads.0 c.push-in-Passed.new.self.items c.turns.forwarder c.take_turn.new.frame c.take_turn.new.header c.in-Passed.end
+      so_far = carries_on _ _ _ _ _ _ _ _ _ _ _ _ _ s (g.T.Tables.known c.lookup.new.self) (g.T.Tables.seen c.lookup.new.self) c.in_ok-found.found.version c.push.new.self.items t.0 leads.0 c.push-in-Passed.new.self.items c.turns.forwarder c.take_turn.new.frame c.take_turn.new.header c.in-Passed.end c.turns.trace
           f.grows f.version.0 f.version.1 c.push.ensures.items t.1 t.2 (subst (λ (o : ForwarderId). Stands leads.0 o c.take_turn.new.frame c.take_turn.new.header c.in-Passed.end) s.stands.at leads.2)
-          (leads.3 ∙ ap (λ l. l ++ c.in-Passed.instance ∷ []) s.visited ∙ sym c.push-in-Passed.ensures.items);
+          (leads.3 ∙ ap (λ l. l ++ c.in-Passed.instance ∷ []) s.visited ∙ sym c.push-in-Passed.ensures.items) (same_step c.turns.trace s.here leads.0 leads.2.at);
+      kept = was.kept;
     }
 
 pub returns-in-Dropped-clause-record : goal.returns-in-Dropped-clause-record
@@ -115,10 +127,10 @@ returns-in-Dropped-clause-record g c =
     let f = c.in_ok-found.ensures in
     let spelled = c.age.ensures.spelled s.here.header s.stands.spelled in
     let leads = c.in-Dropped.ensures s.here (record { at = s.stands.at; frame_is = s.stands.frame_is; spelled = spelled }) in
-    let t = turn_at _ _ _ _ _ _ _ _ _ _ _ _ s (g.T.Tables.known c.lookup.new.self) (get_or c.age.new.header 7 0) c.in_ok-found.found (Ends (Drop (reason_of c.in-Dropped.why c.in-Dropped.instance)) (s.here.visits ++ c.in-Dropped.instance ∷ []))
+    let t = turn_at _ _ _ _ _ _ _ _ _ _ _ _ _ s (g.T.Tables.known c.lookup.new.self) (get_or c.age.new.header 7 0) c.in_ok-found.found (Ends (Drop (reason_of c.in-Dropped.why c.in-Dropped.instance)) (s.here.visits ++ c.in-Dropped.instance ∷ []))
     (λ spent. c.if-age-eq0.false (c.age.ensures.answer s.here.header s.stands.spelled ∙ spent)) (begins_head c.age.new.header (aged s.here.header) c.turns.size spelled).si f.answers leads.0 in (
       f.refused ∙ c.turns.invariant.refused,
-      ends _ _ _ _ _ _ _ _ _ _ _ _ s _ c.args.worker (g.T.Tables.known c.lookup.new.self) (g.T.Tables.seen c.lookup.new.self) c.in_ok-found.found.version t.0 (Drop (reason_of c.in-Dropped.why c.in-Dropped.instance)) (s.here.visits ++ c.in-Dropped.instance ∷ [])
+      ends _ _ _ _ _ _ _ _ _ _ _ _ _ s _ c.args.worker (g.T.Tables.known c.lookup.new.self) (g.T.Tables.seen c.lookup.new.self) c.in_ok-found.found.version t.0 (Drop (reason_of c.in-Dropped.why c.in-Dropped.instance)) (s.here.visits ++ c.in-Dropped.instance ∷ [])
           f.grows f.version.0 f.version.1 c.push.ensures.items t.1 t.2 refl refl (c.push-in-Dropped.ensures.items ∙ ap (λ l. l ++ c.in-Dropped.instance ∷ []) (sym s.visited)) (ap Drop c.reason_of.ensures),
     )
 
@@ -142,4 +154,4 @@ returns-in-Dropped-clause-frame_room g c =
     let s = c.turns.invariant.so_far in
     let spelled = c.age.ensures.spelled s.here.header s.stands.spelled in
     let leads = c.in-Dropped.ensures s.here (record { at = s.stands.at; frame_is = s.stands.frame_is; spelled = spelled }) in
-    ap (λ (f : Captured). f.room) leads.1 ∙ room_stays _ _ _ _ _ _ _ _ _ _ _ _ s
+    ap (λ (f : Captured). f.room) leads.1 ∙ room_stays _ _ _ _ _ _ _ _ _ _ _ _ _ s

@@ -11,7 +11,8 @@ invariant-turns g l = record {
   grows : StartsWith (g.T.Tables.known l.tables) (g.T.Tables.known l.initial.tables);
   refused : g.T.Tables.refused l.tables ≡ g.T.Tables.refused l.initial.tables;
   room : length l.header ≡ 252;
-  so_far : SoFar (functions_of l.bounds) (first_station l.fn.ingress l.fn.frame l.nsh) l.spi (g.T.Tables.known l.tables) (g.T.Tables.seen l.initial.tables) (g.T.Tables.seen l.tables) l.versions.items l.visits.items l.forwarder l.frame l.header l.size;
+  so_far : SoFar (functions_of l.bounds) (first_station l.fn.ingress l.fn.frame l.nsh) l.spi (g.T.Tables.known l.tables) (g.T.Tables.seen l.initial.tables) (g.T.Tables.seen l.tables) l.versions.items l.visits.items l.forwarder l.frame l.header l.size l.trace;
+  kept : l.trace.kept ≡ l.fn.trace.kept;
 }
 
 abbrev pub decreases-turns : goal.decreases-turns
