@@ -1,3 +1,4 @@
 pub mod Rules
 pub mod Matching
 pub mod Verdicts
+pub mod Stations

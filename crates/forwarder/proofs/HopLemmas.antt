@@ -20,7 +20,7 @@ use Rattle.sfc_proxy.specs.Instances.{ServeAwareAt, bytes_moved_on, moved_on}
 use Rattle.sfc_proxy.proofs.InstanceLemmas.{moved, served_frame}
 use Rattle.setup_statements.specs.declared.statements.Bound.{Bound}
 use Rattle.path_selection.specs.declared.answers.Answer.TheVariants.{At}
-use Rattle.forwarder.specs.Stations.{Station}
+use Rattle.classifier.specs.Stations.{Station}
 use Rattle.forwarder.specs.declared.turns.Next.TheVariants.{Passed, Dropped}
 use Rattle.forwarder.specs.Walks.{aged, function_by, functions_of, served}
 use Rattle.forwarder.specs.Kept.{LeadsTo}

@@ -13,7 +13,7 @@ use Rattle.path_selection.specs.declared.answers.Answer.TheVariants.{NoPath, NoI
 use Rattle.path_selection.proofs.OneAnswer.{one_answer}
 use Rattle.record_text.specs.declared.records.End.{End}
 use Rattle.record_text.specs.declared.records.End.TheVariants.{Drop}
-use Rattle.forwarder.specs.Stations.{Station, first_header, first_station}
+use Rattle.classifier.specs.Stations.{Station, first_header, first_station}
 use Rattle.classifier.specs.declared.verdicts.Verdict.{Verdict}
 use Rattle.classifier.specs.declared.verdicts.Verdict.TheVariants as verdict
 use Rattle.classifier.specs.declared.rules.Rule.{Rule}

@@ -15,7 +15,7 @@ use Rattle.path_selection.proofs.TableLemmas.{rises_over}
 use Rattle.record_text.specs.declared.records.End.{End}
 use Rattle.record_text.specs.declared.records.End.TheVariants.{Egress, Drop}
 use Rattle.record_text.specs.declared.records.Reason.TheVariants as reason
-use Rattle.forwarder.specs.Stations.{Station}
+use Rattle.classifier.specs.Stations.{Station}
 use Rattle.forwarder.specs.Walks.{Ends, Follows, GoesOn}
 use Rattle.forwarder.specs.Ways.{GoesStraight, StopsAt, straight}
 use Rattle.forwarder.proofs.WalkLengths.{table_rows}

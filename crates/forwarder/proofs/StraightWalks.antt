@@ -11,7 +11,7 @@ use Rattle.path_selection.specs.Paths.{IsTable, ServicePath}
 use Rattle.path_selection.specs.Published.{Published, table_at}
 use Rattle.record_text.specs.declared.records.End.{End}
 use Rattle.record_text.specs.declared.records.Record.{Record}
-use Rattle.forwarder.specs.Stations.{Station, first_header, first_station}
+use Rattle.classifier.specs.Stations.{Station, first_header, first_station}
 use Rattle.classifier.specs.Verdicts.{Start}
 use Rattle.classifier.specs.declared.verdicts.Verdict.{Verdict}
 use Rattle.classifier.specs.declared.verdicts.Verdict.TheVariants.{Path}

@@ -12,7 +12,7 @@ use Rattle.classifier.specs.Verdicts.{Start}
 use Rattle.classifier.specs.declared.verdicts.Verdict.TheVariants.{Path}
 use Rattle.sfc_config.specs.Parts.{Parts}
 use Rattle.forwarder.specs.Walks.{WalksBy, WalksFrom, functions_of, no_walk}
-use Rattle.forwarder.specs.Stations.{first_header, first_station}
+use Rattle.classifier.specs.Stations.{first_header, first_station}
 use Rattle.forwarder.specs.Kept.{WalkedFrom}
 use Rattle.forwarder.specs.Traces.{KeepsTrace, Traced, Worked}
 use Rattle.forwarder.specs.Workspaces.{Forwarded}

@@ -20,7 +20,7 @@ use Rattle.classifier.specs.declared.rules.Rule.{Rule}
 use Rattle.classifier.specs.declared.verdicts.Verdict.{Verdict}
 use Rattle.classifier.specs.declared.verdicts.Verdict.TheVariants as verdict
 use Rattle.classifier.specs.Rules.{AreRules, IsAction, IsRule}
-use Rattle.forwarder.specs.Stations.{Station, first_header, first_station}
+use Rattle.classifier.specs.Stations.{Station, first_header, first_station}
 use Rattle.classifier.specs.Verdicts.{IsVerdict, Start, verdict_of}
 use Rattle.sfc_config.specs.Parts.{Parts}
 use Rattle.forwarder.specs.Walks.{Follows, GoesOn, IsWalk, Turn, Walk, WalkFrom, WalksBy, functions_of, no_walk}

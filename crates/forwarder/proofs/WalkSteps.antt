@@ -21,7 +21,7 @@ use Rattle.record_text.specs.declared.records.End.{End}
 use Rattle.record_text.specs.declared.records.End.TheVariants.{Drop}
 use Rattle.record_text.specs.declared.records.Reason.TheVariants.{Ttl}
 use Rattle.record_text.specs.declared.records.Record.{Record}
-use Rattle.forwarder.specs.Stations.{Station}
+use Rattle.classifier.specs.Stations.{Station}
 use Rattle.forwarder.specs.Walks.{Ends, Follows, GoesOn, IsSpent, Outcome, Turn, Walk, WalkFrom, function_by}
 use Rattle.forwarder.specs.Records.{Looks, numbers}
 use Rattle.forwarder.specs.Traces.{IsPacket, KeepsTrace, Traced, TracesFrom, with_packet}

@@ -8,7 +8,7 @@ use Rattle.path_selection.specs.Published.{Published}
 use Rattle.path_selection.specs.declared.answers.Answer.{Answer}
 use Rattle.record_text.specs.declared.records.End.TheVariants.{Drop}
 use Rattle.record_text.specs.declared.records.Record.{Record}
-use Rattle.forwarder.specs.Stations.{Station}
+use Rattle.classifier.specs.Stations.{Station}
 use Rattle.forwarder.specs.declared.turns.Next.{Next}
 use Rattle.forwarder.specs.declared.turns.Next.TheVariants.{Done, Handed, Passed, Dropped}
 use Rattle.forwarder.specs.Traces.{KeepsTrace, Traced}

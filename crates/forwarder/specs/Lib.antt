@@ -1,4 +1,3 @@
-pub mod Stations
 pub mod Walks
 pub mod Records
 pub mod Workspaces

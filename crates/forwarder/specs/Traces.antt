@@ -3,7 +3,7 @@ use Rattle.std.specs.Prelude.{◌≡◌, ◌≢◌, ℕ, ◌⊎◌, Bool, true, 
 use Rattle.wire_base.specs.declared.ids.ForwarderId.{ForwarderId}
 use Rattle.net_frames.specs.Captured.{Captured}
 use Rattle.nsh_metadata.specs.Header.{Header, IsNsh}
-use Rattle.forwarder.specs.Stations.{Station}
+use Rattle.classifier.specs.Stations.{Station}
 
 -- the Ethernet header of a packet from a forwarder to another: its type is 894F (RFC 8300, section 10.1), and the addresses, of this
 -- project's own, have the forwarders' numbers

@@ -19,7 +19,7 @@ use Rattle.record_text.specs.declared.records.End.{End}
 use Rattle.record_text.specs.declared.records.End.TheVariants.{Egress, Bypass, Drop}
 use Rattle.record_text.specs.declared.records.Reason.{Reason}
 use Rattle.record_text.specs.declared.records.Reason.TheVariants as reason
-use Rattle.forwarder.specs.Stations.{Station, first_header, first_station}
+use Rattle.classifier.specs.Stations.{Station, first_header, first_station}
 use Rattle.classifier.specs.Verdicts.{Start}
 use Rattle.classifier.specs.declared.verdicts.Verdict.{Verdict}
 use Rattle.classifier.specs.declared.verdicts.Verdict.TheVariants as verdict

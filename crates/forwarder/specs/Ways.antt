@@ -10,7 +10,7 @@ use Rattle.record_text.specs.declared.records.End.{End}
 use Rattle.record_text.specs.declared.records.End.TheVariants.{Egress, Drop}
 use Rattle.record_text.specs.declared.records.Reason.TheVariants.{Ttl, NoInstance}
 use Rattle.record_text.specs.declared.records.Record.{Record}
-use Rattle.forwarder.specs.Stations.{Station}
+use Rattle.classifier.specs.Stations.{Station}
 use Rattle.forwarder.specs.Walks.{reason_of}
 
 -- from a station to the next the service index does not rise, and where an instance passed the frame it falls (RFC 8300,

@@ -3,7 +3,7 @@
 ghost use Rattle.std.specs.Prelude.{◌≡◌, ◌<◌, false, length};
 ghost use Rattle.nsh_metadata.specs.Header.{BeginsWith, Header};
 ghost use Rattle.classifier.specs.Rules.{IsRuleContext};
-ghost use Rattle.forwarder.specs.Stations.{first_header};
+ghost use Rattle.classifier.specs.Stations.{first_header};
 ghost use Rattle.forwarder.specs.Walks.{aged};
 
 use nsh_headers::{Base, NshHead, ServicePath, lower_ttl};

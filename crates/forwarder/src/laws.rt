@@ -3,7 +3,7 @@
 ghost use Rattle.std.specs.Prelude.{◌≡◌, ◌≤◌, ℕ, List, length, All};
 ghost use Rattle.net_frames.specs.Captured.{Captured};
 ghost use Rattle.classifier.specs.Rules.{AreRules};
-ghost use Rattle.forwarder.specs.Stations.{Station};
+ghost use Rattle.classifier.specs.Stations.{Station};
 ghost use Rattle.classifier.specs.Verdicts.{Start};
 ghost use Rattle.classifier.specs.declared.verdicts.Verdict.TheVariants.{Path};
 ghost use Rattle.nsh_metadata.specs.declared.contexts.Context.{Context};

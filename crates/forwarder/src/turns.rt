@@ -4,7 +4,7 @@ ghost use Rattle.std.specs.Prelude.{◌≡◌, ◌≤◌, All, length};
 ghost use Rattle.nsh_metadata.specs.Header.{BeginsWith, Header};
 ghost use Rattle.service_functions.specs.Functions.{IsFunction};
 ghost use Rattle.sfc_config.specs.Parts.{FitsMode};
-ghost use Rattle.forwarder.specs.Stations.{Station};
+ghost use Rattle.classifier.specs.Stations.{Station};
 ghost use Rattle.path_selection.specs.declared.answers.Answer.TheVariants as answer;
 ghost use Rattle.forwarder.specs.Walks.{functions_of, reason_of as reason_by};
 ghost use Rattle.forwarder.specs.Kept.{LeadsTo, StandsAged};

@@ -3,7 +3,7 @@
 ghost use Rattle.std.specs.Prelude.{◌≡◌, ◌-◌, ◌^◌, ◌<◌, ◌≤◌, [], All, length, MatchOption, IfSome, IfNone};
 ghost use Rattle.service_functions.specs.Functions.{IsFunction};
 ghost use Rattle.sfc_config.specs.Parts.{FitsMode};
-ghost use Rattle.forwarder.specs.Stations.{first_station};
+ghost use Rattle.classifier.specs.Stations.{first_station};
 ghost use Rattle.path_selection.specs.Published.{StartsWith};
 ghost use Rattle.forwarder.specs.Kept.{WalkedFrom};
 ghost use Rattle.forwarder.specs.Records.{HasSeen, frame_after};

@@ -6,7 +6,7 @@ use Rattle.record_text.specs.declared.records.Reason.TheVariants.{Rule, NshIngre
 use Rattle.net_frames.specs.Captured.{Captured}
 use Rattle.record_text.specs.declared.records.Record.{Record}
 use Rattle.forwarder.specs.Kept.{WalkedFrom}
-use Rattle.forwarder.specs.Stations.{first_station}
+use Rattle.classifier.specs.Stations.{first_station}
 use Rattle.forwarder.specs.Traces.{Traced, Worked}
 use Rattle.forwarder.specs.Walks.{functions_of}
 use Rattle.forwarder.specs.Workspaces.{Forwarded, taken_in}

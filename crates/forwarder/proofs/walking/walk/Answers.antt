@@ -7,7 +7,7 @@ use Rattle.nsh_metadata.proofs.HeaderLemmas.{begins_head}
 use Rattle.service_functions.specs.Serving.{Through}
 use Rattle.record_text.specs.declared.records.End.TheVariants.{Drop}
 use Rattle.record_text.specs.declared.records.Reason.{Reason}
-use Rattle.forwarder.specs.Stations.{first_station}
+use Rattle.classifier.specs.Stations.{first_station}
 use Rattle.forwarder.specs.Walks.{Ends, GoesOn, aged, functions_of, reason_of}
 use Rattle.forwarder.specs.Records.{numbers, passed}
 use Rattle.forwarder.specs.Kept.{Stands}

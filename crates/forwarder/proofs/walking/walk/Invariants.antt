@@ -1,6 +1,6 @@
 use Rattle.std.proofs.Common.{◌≡◌, ◌-◌, length}
 use Rattle.path_selection.specs.Published.{StartsWith}
-use Rattle.forwarder.specs.Stations.{first_station}
+use Rattle.classifier.specs.Stations.{first_station}
 use Rattle.forwarder.specs.Walks.{functions_of}
 use Rattle.forwarder.proofs.WalkSteps.{SoFar}
 use Rattle.forwarder.proofs.walking.walk.Given as goal
