@@ -1,6 +1,9 @@
 -- The lines that show a Network Service Header (RFC 8300, section 2) and what follows it, or why bytes are no header.
-use Rattle.std.specs.Prelude.{◌≡◌, ℕ, ◌-◌, ◌==◌, if◌then◌else◌, List, [], ◌∷◌, ◌++◌, length, codes, decimal}
+use Rattle.std.specs.Prelude.{◌≡◌, ℕ, ◌-◌, List, [], ◌∷◌, ◌++◌, length, codes, decimal}
 use Rattle.std.specs.List.{flat_map}
+use Rattle.std.specs.Option.{unwrap_or}
+use Rattle.wire_base.specs.Codes.{Row, name_in}
+use Rattle.wire_base.specs.CodeNames.{next_protocol_rows}
 use Rattle.nsh_headers.specs.declared.faults.NshFault.{NshFault}
 use Rattle.nsh_headers.specs.declared.faults.NshFault.TheVariants.{Short, Version, MdType, Length, Context as PastEnd}
 use Rattle.nsh_headers.specs.declared.heads.Base.{Base}
@@ -22,17 +25,13 @@ field label n = label ++ decimal n
 abbrev pub line_end : List ℕ
 line_end = 10 ∷ []
 
--- a Next Protocol by its name, and one without a name by its number (RFC 8300, section 2.2)
+-- a code by its name in a table, and one without a name by its number
+abbrev pub code_text : List Row → ℕ → List ℕ
+code_text rows code = unwrap_or (name_in rows code) (decimal code)
+
+-- a Next Protocol (RFC 8300, section 2.2)
 abbrev pub protocol_text : ℕ → List ℕ
-protocol_text n =
-    if n == 1 then codes "ipv4"
-    else if n == 2 then codes "ipv6"
-    else if n == 3 then codes "ethernet"
-    else if n == 4 then codes "nsh"
-    else if n == 5 then codes "mpls"
-    else if n == 254 then codes "experiment-1"
-    else if n == 255 then codes "experiment-2"
-    else decimal n
+protocol_text n = code_text next_protocol_rows n
 
 -- the base header: O, TTL, Length in words, MD Type and Next Protocol (RFC 8300, section 2.2)
 abbrev pub base_text : Base → List ℕ

@@ -11,7 +11,7 @@ use nsh_headers::{Base, NshFault, NshHead, ServicePath};
 use nsh_metadata::{Context, ItemList, ItemRef, Nsh, decode_nsh};
 use std::alloc::Global;
 use text_words::{print_four_digits, print_number, print_octets, print_octets_or_dash};
-use wire_base::{Bytes, OutOfMemory};
+use wire_base::{Bytes, OutOfMemory, next_protocols};
 
 /// Appends a label and a number.
 pub(crate) fn print_field(out: &mut Bytes, label: &[u8], number: u64) -> Result<(), OutOfMemory>
@@ -25,15 +25,9 @@ pub(crate) fn print_field(out: &mut Bytes, label: &[u8], number: u64) -> Result<
 fn print_protocol(out: &mut Bytes, next: u8) -> Result<(), OutOfMemory>
     ensures { OnOk result (out.new ≡ out.old ++ protocol_text next) }
 {
-    match next {
-        1 => out.push_all(b"ipv4"),
-        2 => out.push_all(b"ipv6"),
-        3 => out.push_all(b"ethernet"),
-        4 => out.push_all(b"nsh"),
-        5 => out.push_all(b"mpls"),
-        254 => out.push_all(b"experiment-1"),
-        255 => out.push_all(b"experiment-2"),
-        _ => print_number(out, u64::from(next)),
+    match next_protocols().name_of(u16::from(next)) {
+        Some(name) => out.push_all(name.as_bytes()),
+        None => print_number(out, u64::from(next)),
     }
 }
 
