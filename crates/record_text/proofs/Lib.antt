@@ -6,3 +6,4 @@ pub mod EndLemmas
 pub mod EntryLemmas
 pub mod TextLemmas
 pub mod TableLemmas
+pub mod DropReasonLemmas

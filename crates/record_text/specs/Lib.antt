@@ -5,3 +5,4 @@ pub mod Lines
 pub mod Records
 pub mod Tables
 pub mod Steps
+pub mod DropReasons

@@ -5,8 +5,8 @@ ghost use Rattle.std.specs.Fmt.{decimal};
 ghost use Rattle.text_words.specs.Reading.{Reads};
 ghost use Rattle.text_words.specs.Printing.{AppendsFront};
 ghost use Rattle.record_text.specs.Names.{IsInstance, instance_text};
-ghost use Rattle.record_text.specs.Ends.{reason_text, ReasonNames, ReasonFits, end_text as text_of, EndNames, EndFits};
-ghost use Rattle.record_text.specs.Steps.{closed, told_pieces, reason_pieces, IsReasonOf};
+ghost use Rattle.record_text.specs.Ends.{bracketed, reason_text, ReasonNames, ReasonFits, end_text as text_of, EndNames, EndFits};
+ghost use Rattle.record_text.specs.Steps.{reason_word_text, closed, told_pieces, reason_pieces, IsReasonOf};
 
 use crate::fields::{before_bracket, behind_label, is_text};
 use crate::printing::{say, say_number};
@@ -140,23 +140,38 @@ pub(crate) fn read_end(text: &[u8], roster: &Roster) -> Option<End>
     }
 }
 
-/// Appends a word with its opening bracket, a service index and the closing bracket.
-fn say_index(out: &mut Bytes, word: &[u8], si: u8) -> Result<(), OutOfMemory>
-    ensures ok { OnOk result (out.new ≡ out.old ++ (word.now ++ (decimal si ++ 41 ∷ []))) }
-    ensures err { OnErr result (AppendsFront out.old (word.now ++ (decimal si ++ 41 ∷ [])) out.new) }
+/// Appends the word of a reason.
+fn say_reason_word(out: &mut Bytes, word: ReasonWord) -> Result<(), OutOfMemory>
+    ensures ok { OnOk result (out.new ≡ out.old ++ reason_word_text word) }
+    ensures err { OnErr result (AppendsFront out.old (reason_word_text word) out.new) }
 {
-    say_number(out, word, u64::from(si))?;
+    say(out, word.text().as_bytes())
+}
+
+/// Appends the word of a reason, and in brackets a service index.
+fn say_index(out: &mut Bytes, word: ReasonWord, si: u8) -> Result<(), OutOfMemory>
+    ensures ok { OnOk result (out.new ≡ out.old ++ bracketed (reason_word_text word) (decimal si)) }
+    ensures err { OnErr result (AppendsFront out.old (bracketed (reason_word_text word) (decimal si)) out.new) }
+{
+    say_reason_word(out, word)?;
+    say_number(out, b"(", u64::from(si))?;
     out.push_all(b")")?;
     Ok(())
 }
 
-/// Appends a word with its opening bracket, the name of an instance and the closing bracket.
-fn say_at(out: &mut Bytes, word: &[u8], id: InstanceId, roster: &Roster) -> Result<(), OutOfMemory>
+/// Appends the word of a reason, and in brackets the name of an instance.
+fn say_at(
+    out: &mut Bytes,
+    word: ReasonWord,
+    id: InstanceId,
+    roster: &Roster,
+) -> Result<(), OutOfMemory>
     requires { IsInstance roster.now id }
-    ensures ok { OnOk result (out.new ≡ out.old ++ (word.now ++ (instance_text roster.now id ++ 41 ∷ []))) }
-    ensures err { OnErr result (AppendsFront out.old (word.now ++ (instance_text roster.now id ++ 41 ∷ [])) out.new) }
+    ensures ok { OnOk result (out.new ≡ out.old ++ bracketed (reason_word_text word) (instance_text roster.now id)) }
+    ensures err { OnErr result (AppendsFront out.old (bracketed (reason_word_text word) (instance_text roster.now id)) out.new) }
 {
-    out.push_all(word)?;
+    say_reason_word(out, word)?;
+    out.push_all(b"(")?;
     say_instance(out, id, roster)?;
     out.push_all(b")")?;
     Ok(())
@@ -169,16 +184,16 @@ fn say_reason(out: &mut Bytes, reason: Reason, roster: &Roster) -> Result<(), Ou
     ensures err { OnErr result (AppendsFront out.old (reason_text roster.now reason) out.new) }
 {
     match reason {
-        Reason::Rule => say(out, b"rule"),
-        Reason::NshIngress => say(out, b"nsh-ingress"),
-        Reason::Ttl => say(out, b"ttl"),
-        Reason::NoPath => say(out, b"no-path"),
-        Reason::NoInstance(si) => say_index(out, b"no-instance(", si),
-        Reason::Denied(id) => say_at(out, b"denied(", id, roster),
-        Reason::HopLimit(id) => say_at(out, b"hop-limit(", id, roster),
-        Reason::Meta(id) => say_at(out, b"meta(", id, roster),
-        Reason::MetaFull(id) => say_at(out, b"meta-full(", id, roster),
-        Reason::TooLong(id) => say_at(out, b"too-long(", id, roster),
+        Reason::Rule => say_reason_word(out, ReasonWord::Rule),
+        Reason::NshIngress => say_reason_word(out, ReasonWord::NshIngress),
+        Reason::Ttl => say_reason_word(out, ReasonWord::Ttl),
+        Reason::NoPath => say_reason_word(out, ReasonWord::NoPath),
+        Reason::NoInstance(si) => say_index(out, ReasonWord::NoInstance, si),
+        Reason::Denied(id) => say_at(out, ReasonWord::Denied, id, roster),
+        Reason::HopLimit(id) => say_at(out, ReasonWord::HopLimit, id, roster),
+        Reason::Meta(id) => say_at(out, ReasonWord::Meta, id, roster),
+        Reason::MetaFull(id) => say_at(out, ReasonWord::MetaFull, id, roster),
+        Reason::TooLong(id) => say_at(out, ReasonWord::TooLong, id, roster),
     }
 }
 

@@ -16,6 +16,7 @@
 //! - `parse_record` reads one line, None exactly where it spells no entry; `parse_records` reads a text, or tells the first
 //!   line that is refused (`Parses`).
 //! - `append_table` and `print_table` write a table (`table_text`).
+//! - `drop_reasons` is the table of the words for which a frame is dropped, by which both read and print them.
 //! - A text has one reading (`every_text_has_a_reading`, `a_text_has_one_reading`), so reading a printed line gives its entry again
 //!   (`reading_is_exact`); a table's text is that of one table (`a_table_text_has_one_table`).
 //!
@@ -29,6 +30,7 @@
 #![tactic(auto)]
 
 mod crossing;
+mod drop_names;
 mod end_text;
 mod faults;
 mod fields;
@@ -43,6 +45,7 @@ mod roster_names;
 mod table_texts;
 
 pub use crossing::types_cross_threads;
+pub use drop_names::drop_reasons;
 pub use faults::RecordsFault;
 pub use laws::{
     a_printed_record_is_read_again, a_table_text_has_one_table, a_text_has_one_reading,
