@@ -17,7 +17,8 @@ use Rattle.bgp_update.specs.Updates.{IsUpdate}
 use Rattle.bgp_update.specs.Refusals.{Refused as RefusedUpdate}
 use Rattle.text_words.specs.Addresses.{dotted}
 use Rattle.text_words.specs.Hexadecimal.{hexadecimal}
-use Rattle.sfc_texts.specs.NshText.{field, line_end, octets_field}
+use Rattle.sfc_texts.specs.NshText.{field, line_end, octets_field, code_text}
+use Rattle.wire_base.specs.CodeNames.{attribute_rows}
 
 -- ---- OPEN
 
@@ -54,22 +55,9 @@ notification_line n = field (codes "notification ") n.code ++ field (codes " ") 
 
 -- ---- UPDATE
 
--- a kind of attribute by its name, and one without a name by its number
+-- a kind of attribute (RFC 4271, section 5)
 abbrev pub attribute_name : ℕ → List ℕ
-attribute_name kind =
-    if kind == 1 then codes "origin"
-    else if kind == 2 then codes "as-path"
-    else if kind == 3 then codes "next-hop"
-    else if kind == 4 then codes "med"
-    else if kind == 5 then codes "local-pref"
-    else if kind == 6 then codes "atomic-aggregate"
-    else if kind == 7 then codes "aggregator"
-    else if kind == 8 then codes "communities"
-    else if kind == 14 then codes "mp-reach"
-    else if kind == 15 then codes "mp-unreach"
-    else if kind == 16 then codes "ext-communities"
-    else if kind == 37 then codes "sfp"
-    else decimal kind
+attribute_name kind = code_text attribute_rows kind
 
 -- flags in two digits, a name and the bytes of a value
 abbrev pub value_line : ℕ → ℕ → List ℕ → List ℕ

@@ -9,16 +9,17 @@ ghost use Rattle.bgp_update.specs.Attributes.{attributes_bytes, AttributeFits};
 ghost use Rattle.bgp_update.specs.Checks.{HasUpdate};
 ghost use Rattle.text_words.specs.Hexadecimal.{hexadecimal, octets_or_dash};
 ghost use Rattle.sfc_texts.specs.NshText.{field, line_end, octets_field};
-ghost use Rattle.sfc_texts.specs.BgpText.{capability_text, further_capability, capabilities_text, identifier_text, open_line, keep_alive_line, notification_line, attribute_name, value_line, attribute_line, refused_line, rest_line};
+ghost use Rattle.sfc_texts.specs.BgpText.{capability_text, further_capability, capabilities_text, identifier_text, open_line, keep_alive_line, notification_line, value_line, attribute_line, refused_line, rest_line};
 ghost use Rattle.sfc_texts.specs.BgpSteps.{AppendsUpdate, UpdateShown, MessageShown, NextShown};
 
+use crate::attribute_names::AttributeNames;
 use crate::nsh_text::{print_field, print_octets_field};
 use bgp_messages::{BgpFeed, Capability, Message, NextFault, Notice, Open, Param};
 use bgp_update::{
     AttributePiece, MALFORMED_ATTRIBUTE_LIST, UPDATE_MESSAGE_ERROR, attribute_at, attributes_in,
 };
 use std::alloc::Global;
-use text_words::{print_dotted, print_number, print_octets};
+use text_words::{print_dotted, print_octets};
 use wire_base::{Bytes, Fixed, OutOfMemory};
 
 /// How many bytes the header of a message has.
@@ -102,58 +103,49 @@ fn print_notification(out: &mut Bytes, notice: &Notice) -> Result<(), OutOfMemor
     out.push_all(b"\n")
 }
 
-/// Appends the name of a kind of attribute, or its number where it has no name.
-fn print_attribute_name(out: &mut Bytes, kind: u8) -> Result<(), OutOfMemory>
-    ensures { OnOk result (out.new ≡ out.old ++ attribute_name kind) }
-{
-    match kind {
-        1 => out.push_all(b"origin"),
-        2 => out.push_all(b"as-path"),
-        3 => out.push_all(b"next-hop"),
-        4 => out.push_all(b"med"),
-        5 => out.push_all(b"local-pref"),
-        6 => out.push_all(b"atomic-aggregate"),
-        7 => out.push_all(b"aggregator"),
-        8 => out.push_all(b"communities"),
-        14 => out.push_all(b"mp-reach"),
-        15 => out.push_all(b"mp-unreach"),
-        16 => out.push_all(b"ext-communities"),
-        37 => out.push_all(b"sfp"),
-        _ => print_number(out, u64::from(kind)),
-    }
-}
-
 /// Appends the line of an attribute.
-fn print_attribute(out: &mut Bytes, piece: &AttributePiece<'_>) -> Result<(), OutOfMemory>
+fn print_attribute(
+    names: &AttributeNames,
+    out: &mut Bytes,
+    piece: &AttributePiece<'_>,
+) -> Result<(), OutOfMemory>
     ensures { OnOk result (out.new ≡ out.old ++ value_line piece.now.flags piece.now.kind piece.now.value.now) }
 {
     out.push_all(b"attribute ")?;
     print_octets(out, &[piece.flags])?;
     out.push_all(b" ")?;
-    print_attribute_name(out, piece.kind)?;
+    names.print(out, piece.kind)?;
     print_octets_field(out, b" ", piece.value)?;
     out.push_all(b"\n")
 }
 
 /// Appends the lines of the attributes that fill the bytes.
-fn print_attributes(out: &mut Bytes, bytes: &[u8]) -> Result<(), OutOfMemory>
+fn print_attributes(
+    names: &AttributeNames,
+    out: &mut Bytes,
+    bytes: &[u8],
+) -> Result<(), OutOfMemory>
     ensures { (list : List Attribute) → AllByRecursion AttributeFits list → bytes.now ≡ attributes_bytes list
         → OnOk result (out.new ≡ out.old ++ flat_map attribute_line list) }
 {
     let mut rest = bytes;
     while let Some(piece) = attribute_at(rest) {
-        print_attribute(out, &piece)?;
+        print_attribute(names, out, &piece)?;
         rest = piece.rest;
     }
     Ok(())
 }
 
 /// Appends the lines of the update whose attributes fill the bytes.
-fn print_update(out: &mut Bytes, attributes: &[u8]) -> Result<(), OutOfMemory>
+fn print_update(
+    names: &AttributeNames,
+    out: &mut Bytes,
+    attributes: &[u8],
+) -> Result<(), OutOfMemory>
     ensures { (content : List ℕ) → HasUpdate content attributes.now → OnOk result (AppendsUpdate content out.old out.new) }
 {
     out.push_all(b"update\n")?;
-    print_attributes(out, attributes)
+    print_attributes(names, out, attributes)
 }
 
 /// Appends the line of a refusal.
@@ -189,13 +181,18 @@ pub(crate) enum Step {
 }
 
 /// Appends the lines of an UPDATE, whose message begins at the place, or of its refusal. Nothing of it is copied.
-fn show_update(out: &mut Bytes, place: u64, content: &[u8]) -> Result<Step, OutOfMemory>
+fn show_update(
+    names: &AttributeNames,
+    out: &mut Bytes,
+    place: u64,
+    content: &[u8],
+) -> Result<Step, OutOfMemory>
     requires { place + 19 + length content.now < 2 ^ 64 }
     ensures { UpdateShown place content.now out.old out.new result }
 {
     match attributes_in(content) {
         Ok(attributes) => {
-            print_update(out, attributes)?;
+            print_update(names, out, attributes)?;
             Ok(Step::Message)
         }
         Err(inside) => {
@@ -209,6 +206,7 @@ fn show_update(out: &mut Bytes, place: u64, content: &[u8]) -> Result<Step, OutO
 /// Appends the lines of a message that begins at the place, or of its refusal.
 fn show_message(
     alloc: Global,
+    names: &AttributeNames,
     out: &mut Bytes,
     place: u64,
     message: &Message,
@@ -218,7 +216,7 @@ fn show_message(
 {
     match message {
         Message::Open(opening) => print_open(alloc, out, opening)?,
-        Message::Update(body) => return show_update(out, place, body.as_slice()),
+        Message::Update(body) => return show_update(names, out, place, body.as_slice()),
         Message::Notification(notice) => print_notification(out, notice)?,
         Message::KeepAlive => out.push_all(b"keepalive\n")?,
     }
@@ -228,6 +226,7 @@ fn show_message(
 /// Appends what the feed's next answer shows.
 pub(crate) fn show_next(
     alloc: Global,
+    names: &AttributeNames,
     feed: &mut BgpFeed,
     out: &mut Bytes,
 ) -> Result<Step, OutOfMemory>
@@ -237,7 +236,7 @@ pub(crate) fn show_next(
 {
     let place = feed.place();
     match feed.next() {
-        Ok(Some(message)) => show_message(alloc, out, place, &message),
+        Ok(Some(message)) => show_message(alloc, names, out, place, &message),
         Ok(None) => Ok(Step::Waits),
         Err(NextFault::Bad(refusal)) => {
             print_refused(out, refusal.code, refusal.subcode, refusal.place)?;

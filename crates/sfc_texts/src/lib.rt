@@ -31,6 +31,7 @@
 //! ```
 #![tactic(auto)]
 
+mod attribute_names;
 mod bgp_text;
 mod laws;
 mod nsh_text;

@@ -3,6 +3,7 @@
 ghost use Rattle.std.specs.Prelude.{IfOk};
 ghost use Rattle.sfc_texts.specs.BgpText.{ShowsBgp};
 
+use crate::attribute_names::AttributeNames;
 use crate::bgp_text::{Step, print_rest, show_next};
 use bgp_messages::BgpFeed;
 use std::alloc::Global;
@@ -27,6 +28,7 @@ pub(crate) enum Stage {
 #[derive(Debug, Drop)]
 pub struct StreamLines {
     alloc: Global,
+    names: AttributeNames,
     feed: BgpFeed,
     stage: Stage,
 }
@@ -55,6 +57,7 @@ impl StreamLines {
     {
         StreamLines {
             alloc,
+            names: AttributeNames::new(),
             feed: BgpFeed::new(alloc),
             stage: Stage::Open,
         }
@@ -105,7 +108,7 @@ impl StreamLines {
         ensures count { self.new.place + length self.new.rest ≡ self.old.place + length self.old.rest }
         ensures failed { OnErr result (self.new.stage ≡ Stage.Failed) }
     {
-        match show_next(self.alloc, &mut self.feed, out) {
+        match show_next(self.alloc, &self.names, &mut self.feed, out) {
             Ok(Step::Message) => Ok(true),
             Ok(Step::Waits) => Ok(false),
             Ok(Step::Over) => {
