@@ -4,4 +4,6 @@
 #[cfg(test)]
 mod desk_tests;
 #[cfg(test)]
+mod record_text_tests;
+#[cfg(test)]
 mod wire_base_tests;
