@@ -7,11 +7,10 @@ use crate::ports::{OUTPUTS, port_named};
 use commands::{ReadFault, read_all};
 use sfc_desk::{Desk, MemoryDesk, Port};
 use sfc_program::{OpenGate, Status, Words, sfc_call, status_line};
-use static_walks::{StaticPath, walk_by_stations};
 use std::alloc::{AllocError, Global};
 use std::io;
 use std::str::SplitWhitespace;
-use wire_base::{List, OutOfMemory, Spi};
+use wire_base::{List, OutOfMemory};
 
 /// Want of memory, as the program ends with it.
 fn memory_fault(_fault: OutOfMemory) -> AllocError {
@@ -77,7 +76,6 @@ impl Rows {
             "bind" => self.bind(rt, words),
             "read" => self.read(rt, words),
             "sfc" => self.call(rt, words),
-            "stations" => self.walk(rt, words),
             _ => Ok(false),
         }
     }
@@ -139,21 +137,6 @@ impl Rows {
             Err(ReadFault::File) => println!(rt; "  file")?,
             Err(ReadFault::OutOfMemory) => return Err(AllocError.into()),
         }
-        Ok(true)
-    }
-
-    /// `stations SPI COUNT`
-    fn walk<R: Print>(&self, rt: &R, words: &mut SplitWhitespace) -> io::Result<bool> {
-        let Some(spi) = next_number(words).and_then(Spi::of) else {
-            return Ok(false);
-        };
-        let Some(Ok(count)) = next_number(words).map(u8::try_from) else {
-            return Ok(false);
-        };
-        let end = walk_by_stations(self.alloc, &StaticPath { spi, count }, &[0xAA; 60]).map_err(
-            memory_fault,
-        )?;
-        println!(rt; "  {end:?}")?;
         Ok(true)
     }
 

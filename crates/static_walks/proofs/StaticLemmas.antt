@@ -1,10 +1,10 @@
 -- What the table of a static path says of an index, and that it says nothing else.
-use Rattle.std.proofs.Common.{List, ◌≡◌, ◌<◌, ◌≤◌, ℕ, zero, suc, ◌+◌, ◌-◌, length, get_or, refl, sym, ap, ◌∙◌, arith, subst, ◌++◌, ◌∷◌, [], append_assoc}
+use Rattle.std.proofs.Common.{◌≡◌, ◌<◌, ◌≤◌, ℕ, zero, suc, ◌+◌, ◌-◌, length, get_or, refl, sym, ap, ◌∙◌, arith, subst}
 use Rattle.std.specs.List.{All, Contains}
-use Rattle.static_walks.specs.declared.paths.Answer.TheVariants.{Ended, At}
-use Rattle.static_walks.specs.declared.paths.HopRow.{HopRow}
-use Rattle.static_walks.specs.declared.paths.Path.{Path}
-use Rattle.static_walks.specs.Answers.{HasPath, IsAnswer}
+use Rattle.path_selection.specs.declared.answers.Answer.TheVariants.{Ended, At}
+use Rattle.path_selection.specs.declared.hops.HopRow.{HopRow}
+use Rattle.path_selection.specs.Paths.{ServicePath}
+use Rattle.path_selection.specs.Answers.{HasPath, IsAnswer}
 use Rattle.static_walks.specs.Walks.{here, static_row, static_rows, static_table}
 
 -- there are as many hops
@@ -19,7 +19,7 @@ static_rows-at k (suc more) zero d below = ap static_row (omega arith)
 static_rows-at k (suc more) (suc i) d below = static_rows-at (suc k) more i d (omega (arith, below)) ∙ ap static_row (omega arith)
 
 -- the path of the static table
-abbrev pub static_path : ℕ → ℕ → Path
+abbrev pub static_path : ℕ → ℕ → ServicePath
 static_path spi count = record { spi = spi; rows = static_rows 0 count }
 
 pub has_static : (spi count : ℕ) → HasPath (static_table spi count) spi (static_path spi count)
@@ -59,14 +59,3 @@ says_at spi count si small enough =
 pub says_ended : (spi count si : ℕ) → count ≤ 255 → si + count < 256 → IsAnswer (static_table spi count) spi si Ended
 says_ended spi count si few low =
     (static_path spi count, has_static spi count, all_rows (λ row. si < row.si) count (λ k below. omega (arith, few, low, below)))
-
--- one hop more of those that are left
-pub rows_step : (rows all : List HopRow) (k count : ℕ) (row : HopRow) → k < count → row ≡ static_row k → rows ++ static_rows k (count - k) ≡ all → (rows ++ row ∷ []) ++ static_rows (k + 1) (count - (k + 1)) ≡ all
-rows_step rows all k count row below is so_far =
-    let left : count - k ≡ suc (count - (k + 1)) = omega (arith, below) in
-    let next : k + 1 ≡ suc k = omega arith in
-    append_assoc rows (row ∷ []) (static_rows (k + 1) (count - (k + 1)))
-    ∙ ap (λ r. rows ++ (r ∷ static_rows (k + 1) (count - (k + 1)))) is
-    ∙ ap (λ n. rows ++ (static_row k ∷ static_rows n (count - (k + 1)))) next
-    ∙ ap (λ n. rows ++ static_rows k n) (sym left)
-    ∙ so_far

@@ -1,22 +1,29 @@
 -- Where a walk over a static path ends: at egress up to 61 functions, for want of TTL above.
-use Rattle.std.proofs.Common.{◌≡◌, ◌≢◌, ◌<◌, ◌≤◌, ℕ, zero, suc, ◌+◌, ◌-◌, List, [], ◌∷◌, ◌++◌, Option, Some, None, Bool, true, false, refl, sym, ap, ◌∙◌, arith, subst, inl, inr, cond, nat_le}
-use Rattle.std.proofs.lemmas.Bool.{cases_lt, le-leb, lt-leb, ne_eqb}
+use Rattle.std.proofs.Common.{◌≡◌, ◌<◌, ◌≤◌, ℕ, zero, suc, ◌+◌, ◌-◌, List, [], ◌∷◌, Option, Some, None, Bool, true, false, replicate, refl, sym, ap, ◌∙◌, arith, subst, inl, inr, cond, nat_le}
+use Rattle.std.proofs.lemmas.Bool.{cases_lt, le-leb, lt-leb}
 use Rattle.std.specs.List.{All, Contains}
 use Rattle.wire_base.specs.declared.ids.ForwarderId.{ForwarderId}
 use Rattle.wire_base.specs.declared.ids.InstanceId.{InstanceId}
+use Rattle.net_frames.specs.Captured.{Captured}
 use Rattle.nsh_headers.specs.Edit.{lowered}
-use Rattle.static_walks.specs.declared.paths.Answer.TheVariants.{NoPath as NoSuchPath, Ended, NoInstance as NoneThere, At}
-use Rattle.static_walks.specs.declared.paths.HopRow.{HopRow}
-use Rattle.static_walks.specs.declared.paths.Path.{Path}
-use Rattle.static_walks.specs.declared.walks.End.{End}
-use Rattle.static_walks.specs.declared.walks.End.TheVariants.{Egress, Drop}
-use Rattle.static_walks.specs.declared.walks.Reason.TheVariants.{Ttl, NoPath, NoInstance}
-use Rattle.static_walks.specs.Answers.{HasPath, IsAnswer, Serves}
-use Rattle.static_walks.specs.Walks.{Ends, GoesOn, IsUnderWay, Station, Turn, WalkFrom, WalksTo, first_station, here, moved, pass, static_row, static_rows, static_table}
+use Rattle.path_selection.specs.Answers.{HasPath, IsAnswer, Serves}
+use Rattle.path_selection.specs.Paths.{ServicePath}
+use Rattle.path_selection.specs.declared.hops.HopRow.{HopRow}
+use Rattle.path_selection.specs.declared.answers.Answer.{Answer}
+use Rattle.path_selection.specs.declared.answers.Answer.TheVariants.{NoPath, Ended, NoInstance, At}
+use Rattle.record_text.specs.declared.records.End.{End}
+use Rattle.record_text.specs.declared.records.End.TheVariants.{Egress, Drop}
+use Rattle.record_text.specs.declared.records.Reason.TheVariants.{Ttl}
+use Rattle.classifier.specs.Stations.{Station, first_station}
+use Rattle.forwarder.specs.Walks.{Ends, Follows, GoesOn, IsSpent, Turn, WalkFrom, served}
+use Rattle.forwarder.proofs.WalkSteps.{lowered_above}
+use Rattle.static_walks.specs.TurnSteps.{next_station, own_instance}
+use Rattle.static_walks.specs.Walks.{WalksOn, WalksTo, here, static_header, static_row, static_rows, static_table}
 use Rattle.static_walks.proofs.StaticLemmas.{length-static_rows, says_at, says_ended, static_path, static_rows-at}
+use Rattle.static_walks.proofs.WalkLemmas.{none_drops, own_turn, turn_before}
 
 -- the table has no other path
-only_path : (spi count : ℕ) (path : Path) → Contains (static_table spi count) path → static_path spi count ≡ path
+only_path : (spi count : ℕ) (path : ServicePath) → Contains (static_table spi count) path → static_path spi count ≡ path
 only_path spi count path (zero, below, is) = is
 only_path spi count path (suc k, below, is) = absurd (omega (arith, below))
 
@@ -39,7 +46,7 @@ pub record IsOwn (count si : ℕ) (row : HopRow) : Type 0 where
   pub same : row ≡ static_row (255 - si)
   pub enough : 256 ≤ si + count
 
-pub serves_own : (spi count asked si : ℕ) (row : HopRow) (path : Path) → si ≤ 255 → count ≤ 255 → HasPath (static_table spi count) asked path → Serves path.rows si row → IsOwn count si row
+pub serves_own : (spi count asked si : ℕ) (row : HopRow) (path : ServicePath) → si ≤ 255 → count ≤ 255 → HasPath (static_table spi count) asked path → Serves path.rows si row → IsOwn count si row
 serves_own spi count asked si row path small few has serves =
     let path_is = only_path spi count path has.there in
     let on_static : Serves (static_rows 0 count) si row = subst (λ p. Serves p.rows si row) (sym path_is) serves in
@@ -75,7 +82,7 @@ at_hop spi count asked si at forwarder instance small few (row, (path, has, serv
     chosen None = here
     chosen (Some pair) = pair.0
 
-pub never_empty : (spi count asked si at : ℕ) → si ≤ 255 → count ≤ 255 → IsAnswer (static_table spi count) asked si (NoneThere at) → ⊥
+pub never_empty : (spi count asked si at : ℕ) → si ≤ 255 → count ≤ 255 → IsAnswer (static_table spi count) asked si (NoInstance at) → ⊥
 never_empty spi count asked si at small few (row, (path, has, serves), at_is, choice) =
     let own = serves_own spi count asked si row path small few has serves in
     is_none (sym choice ∙ ap (λ r. r.choice) own.same)
@@ -94,7 +101,7 @@ ended_below spi count asked si some (path, has, above) =
     let last = of_hop (λ row. si < row.si) count (count - 1) on_static (omega (arith, some)) in
     omega (arith, last, some)
 
-pub is_named : (spi count si : ℕ) → IsAnswer (static_table spi count) spi si NoSuchPath → ⊥
+pub is_named : (spi count si : ℕ) → IsAnswer (static_table spi count) spi si NoPath → ⊥
 is_named spi count si none = none 0 (static_path spi count) (omega arith) refl
 
 -- where a walk over so many functions ends
@@ -107,148 +114,141 @@ egress_up_to count few = ap (λ b. cond b Egress (Drop Ttl)) (sym (le-leb count 
 pub spent_above : (count : ℕ) → 61 < count → Drop Ttl ≡ end_of count
 spent_above count many = ap (λ b. cond b Egress (Drop Ttl)) (sym (lt-leb count 61 many))
 
--- the TTL, lowered
-lowered_above : (t : ℕ) → 1 ≤ t → lowered t ≡ t - 1
-lowered_above zero some = absurd (omega (arith, some))
-lowered_above (suc t) some =
-    let above : suc t ≢ 0 = λ e. omega (arith, e) in
-    ap (λ b. cond b 63 (suc t - 1)) (ne_eqb (suc t) 0 above)
+-- ---- stations
 
 -- a station of the walk after k turns
 pub record IsAfter (spi count k : ℕ) (s : Station) : Type 0 where
   pub home : s.forwarder ≡ here
-  pub named : s.header.path.spi ≡ spi
-  pub ttl : s.header.base.ttl + k ≡ 63
-  pub si : s.header.path.si + k ≡ 255
+  pub named : s.header.head.path.spi ≡ spi
+  pub ttl : s.header.head.base.ttl + k ≡ 63
+  pub si : s.header.head.path.si + k ≡ 255
   pub visited : k ≤ count
   pub alive : k ≤ 62
 
--- the last turn
-last_turn : (spi count k : ℕ) (s : Station) (end : End) → 1 ≤ count → count ≤ 255 → IsAfter spi count k s → Turn (static_table spi count) s (Ends end) → end ≡ end_of count
-last_turn spi count k s (Drop Ttl) some few after spent =
-    let ttl = after.ttl in
-    let alive = after.alive in
-    let visited = after.visited in
-    let low = lowered_above s.header.base.ttl (omega (arith, ttl, alive)) in
-    spent_above count (omega (arith, low, spent, ttl, visited))
-last_turn spi count k s (Drop NoPath) some few after (_, none) =
-    absurd (is_named spi count s.header.path.si (subst (λ n. IsAnswer (static_table spi count) n s.header.path.si NoSuchPath) after.named none))
-last_turn spi count k s (Drop (NoInstance at)) some few after (_, none) =
-    let si = after.si in
-    absurd (never_empty spi count s.header.path.spi s.header.path.si at (omega (arith, si)) few none)
-last_turn spi count k s Egress some few after (under_way, ended) =
-    let ttl = after.ttl in
-    let si = after.si in
-    let alive = after.alive in
-    let low = lowered_above s.header.base.ttl (omega (arith, ttl, alive)) in
-    let below = ended_below spi count s.header.path.spi s.header.path.si some ended in
-    egress_up_to count (elim (cases_lt 61 k) [
-      | inl many ↦ absurd (under_way (omega (arith, low, ttl, many, alive)))
-      | inr few_turns ↦ omega (arith, below, si, few_turns)
-    ])
+-- the first one
+is_first : (spi count : ℕ) (frame : Captured) → IsAfter spi count 0 (first_station here frame (static_header spi))
+is_first spi count frame = record { home = refl; named = refl; ttl = refl; si = refl; visited = omega arith; alive = omega arith }
 
--- a turn that goes on
-pub next_turn : (spi count k : ℕ) (s next : Station) → count ≤ 255 → IsAfter spi count k s → Turn (static_table spi count) s (GoesOn next) → IsAfter spi count (suc k) next
-next_turn spi count k s next few after (under_way, inl (at, other, instance, answer, differs, _)) =
-    let si = after.si in
-    let hop = at_hop spi count s.header.path.spi s.header.path.si at other instance (omega (arith, si)) few answer in
-    absurd (differs (hop.forwarder_is ∙ sym after.home))
-next_turn spi count k s next few after (under_way, inr (at, instance, answer, next_is)) =
-    let si = after.si in
+-- its TTL, lowered
+low_at : (spi count k : ℕ) (s : Station) → IsAfter spi count k s → lowered s.header.head.base.ttl ≡ s.header.head.base.ttl - 1
+low_at spi count k s after =
     let ttl = after.ttl in
     let alive = after.alive in
-    let hop = at_hop spi count s.header.path.spi s.header.path.si at s.forwarder instance (omega (arith, si)) few answer in
-    let at_is = hop.at_is in
-    let enough = hop.enough in
-    let low = lowered_above s.header.base.ttl (omega (arith, ttl, alive)) in
-    let further : k ≤ 61 = elim (cases_lt 61 k) [
+    lowered_above s.header.head.base.ttl (omega (arith, ttl, alive))
+
+-- what is not spent takes 61 turns at most
+turns_left : (spi count k : ℕ) (s : Station) → IsAfter spi count k s → (IsSpent s → ⊥) → k ≤ 61
+turns_left spi count k s after under_way =
+    let ttl = after.ttl in
+    let alive = after.alive in
+    let low = low_at spi count k s after in
+    elim (cases_lt 61 k) [
       | inl many ↦ absurd (under_way (omega (arith, low, ttl, many, alive)))
       | inr few_turns ↦ few_turns
-    ] in
+    ]
+
+-- an answer that ends the walk
+ended_by : (spi count k : ℕ) (s : Station) (answer : Answer) (end : End) (visits : List InstanceId) → 1 ≤ count → count ≤ 255 → IsAfter spi count k s → (IsSpent s → ⊥) → IsAnswer (static_table spi count) s.header.head.path.spi s.header.head.path.si answer → Follows [] s answer (Ends end visits) → end ≡ end_of count
+ended_by spi count k s NoPath end visits some few after under_way none follows =
+    absurd (is_named spi count s.header.head.path.si (subst (λ n. IsAnswer (static_table spi count) n s.header.head.path.si NoPath) after.named none))
+ended_by spi count k s (NoInstance at) end visits some few after under_way none follows =
+    let si = after.si in
+    absurd (never_empty spi count s.header.head.path.spi s.header.head.path.si at (omega (arith, si)) few none)
+ended_by spi count k s Ended end visits some few after under_way ended follows =
+    let si = after.si in
+    let few_turns = turns_left spi count k s after under_way in
+    let below = ended_below spi count s.header.head.path.spi s.header.head.path.si some ended in
+    let same : Ends end visits ≡ Ends Egress s.visits = follows in
+    let out : end ≡ Egress = cc in
+    out ∙ egress_up_to count (omega (arith, below, si, few_turns))
+ended_by spi count k s (At at other instance) end visits some few after under_way answered (home, why, drops, end_is, visits_are) =
+    absurd (none_drops s instance why drops)
+
+-- an answer by which it goes on
+goes_on_by : (spi count k : ℕ) (s next : Station) (answer : Answer) → count ≤ 255 → IsAfter spi count k s → (IsSpent s → ⊥) → IsAnswer (static_table spi count) s.header.head.path.spi s.header.head.path.si answer → Follows [] s answer (GoesOn next) → IsAfter spi count (suc k) next
+goes_on_by spi count k s next NoPath few after under_way answered follows = absurd (cc)
+goes_on_by spi count k s next (NoInstance at) few after under_way answered follows = absurd (cc)
+goes_on_by spi count k s next Ended few after under_way answered follows = absurd (cc)
+goes_on_by spi count k s next (At at other instance) few after under_way answered (inl (differs, next_is)) =
+    let si = after.si in
+    let hop = at_hop spi count s.header.head.path.spi s.header.head.path.si at other instance (omega (arith, si)) few answered in
+    absurd (differs (hop.forwarder_is ∙ sym after.home))
+goes_on_by spi count k s next (At at other instance) few after under_way answered (inr (same, passes, next_is)) =
+    let si = after.si in
+    let ttl = after.ttl in
+    let hop = at_hop spi count s.header.head.path.spi s.header.head.path.si at other instance (omega (arith, si)) few answered in
+    let at_is = hop.at_is in
+    let enough = hop.enough in
+    let low = low_at spi count k s after in
+    let further = turns_left spi count k s after under_way in
+    let ttl_now : (served [] s at instance).header.head.base.ttl ≡ s.header.head.base.ttl - 1 = low in
+    let si_now : (served [] s at instance).header.head.path.si ≡ at - 1 = refl in
     subst (IsAfter spi count (suc k)) (sym next_is) (record {
       home = after.home;
       named = after.named;
-      ttl = omega (arith, low, ttl, alive);
-      si = omega (arith, at_is, enough, si, few);
+      ttl = omega (arith, ttl_now, ttl, further);
+      si = omega (arith, si_now, at_is, enough, si, few);
       visited = omega (arith, enough, si);
       alive = omega (arith, further);
     })
 
--- a station of the slow walk, from which every walk is one from the first station
-pub record Walking (spi count : ℕ) (frame : List ℕ) (s : Station) : Type 0 where
-  pub turns : ℕ
-  pub after : IsAfter spi count turns s
-  pub whole : (stations : List Station) (end : End) → WalkFrom (static_table spi count) (s ∷ stations) end → WalksTo spi count frame end
+-- a turn that goes on
+next_turn : (spi count k : ℕ) (s next : Station) → count ≤ 255 → IsAfter spi count k s → Turn [] (static_table spi count) s (GoesOn next) → IsAfter spi count (suc k) next
+next_turn spi count k s next few after turn = goes_on_by spi count k s next turn.answer few after turn.alive turn.answered turn.follows
 
-pub walking_first : (spi count : ℕ) (frame : List ℕ) → Walking spi count frame (first_station spi frame)
-walking_first spi count frame = record {
-  turns = 0;
-  after = record { home = refl; named = refl; ttl = refl; si = refl; visited = omega arith; alive = omega arith };
-  whole = λ stations end walk. (stations, walk);
-}
-
-pub walking_next : (spi count : ℕ) (frame : List ℕ) (s next : Station) → count ≤ 255 → Walking spi count frame s → Turn (static_table spi count) s (GoesOn next) → Walking spi count frame next
-walking_next spi count frame s next few walking turn = record {
-  turns = suc walking.turns;
-  after = next_turn spi count walking.turns s next few walking.after turn;
-  whole = λ stations end walk. walking.whole (next ∷ stations) end (turn, walk);
-}
-
--- and its TTL is smaller
-pub walking_falls : (spi count : ℕ) (frame : List ℕ) (s next : Station) → count ≤ 255 → Walking spi count frame s → Turn (static_table spi count) s (GoesOn next) → next.header.base.ttl < s.header.base.ttl
-walking_falls spi count frame s next few walking turn =
-    let before = walking.after.ttl in
-    let after = (next_turn spi count walking.turns s next few walking.after turn).ttl in
-    omega (arith, before, after)
+-- ---- walks
 
 -- every walk from such a station
-walk_ends : (spi count k : ℕ) (s : Station) (others : List Station) (end : End) → 1 ≤ count → count ≤ 255 → IsAfter spi count k s → WalkFrom (static_table spi count) (s ∷ others) end → end ≡ end_of count
-walk_ends spi count k s [] end some few after walk = last_turn spi count k s end some few after walk
-walk_ends spi count k s (next ∷ others) end some few after (turn, walk) =
-    walk_ends spi count (suc k) next others end some few (next_turn spi count k s next few after turn) walk
+walk_ends : (spi count k lookups : ℕ) (s : Station) (later : List Station) (end : End) (visits : List InstanceId) → 1 ≤ count → count ≤ 255 → IsAfter spi count k s → WalkFrom [] s later (replicate lookups (static_table spi count)) end visits → end ≡ end_of count
+walk_ends spi count k zero s [] end visits some few after (spent, end_is, visits_are) =
+    let ttl = after.ttl in
+    let visited = after.visited in
+    let low = low_at spi count k s after in
+    let now : lowered s.header.head.base.ttl ≡ 0 = spent in
+    end_is ∙ spent_above count (omega (arith, low, now, ttl, visited))
+walk_ends spi count k zero s (next ∷ later) end visits some few after walk = absurd walk
+walk_ends spi count k (suc zero) s [] end visits some few after turn =
+    ended_by spi count k s turn.answer end visits some few after turn.alive turn.answered turn.follows
+walk_ends spi count k (suc (suc more)) s [] end visits some few after walk = absurd walk
+walk_ends spi count k (suc more) s (next ∷ later) end visits some few after walk =
+    walk_ends spi count (suc k) more next later end visits some few (next_turn spi count k s next few after walk.0) walk.1
 
 -- every walk over a static path
-pub static_end : (spi count : ℕ) (frame : List ℕ) (end : End) → 1 ≤ count → count ≤ 255 → WalksTo spi count frame end → end ≡ end_of count
-static_end spi count frame end some few (stations, walk) =
-    walk_ends spi count 0 (first_station spi frame) stations end some few
-    (record { home = refl; named = refl; ttl = refl; si = refl; visited = omega arith; alive = omega arith }) walk
+pub static_end : (spi count : ℕ) (frame : Captured) (end : End) → 1 ≤ count → count ≤ 255 → WalksTo spi count frame end → end ≡ end_of count
+static_end spi count frame end some few w =
+    walk_ends spi count 0 w.lookups (first_station here frame (static_header spi)) w.later end w.visits some few (is_first spi count frame) w.walk
 
 -- a walk has one end
-pub one_end : (spi count : ℕ) (frame : List ℕ) (end other : End) → 1 ≤ count → count ≤ 255 → WalksTo spi count frame end → WalksTo spi count frame other → end ≡ other
+pub one_end : (spi count : ℕ) (frame : Captured) (end other : End) → 1 ≤ count → count ≤ 255 → WalksTo spi count frame end → WalksTo spi count frame other → end ≡ other
 one_end spi count frame end other some few walk walk' =
     static_end spi count frame end some few walk ∙ sym (static_end spi count frame other some few walk')
 
--- the instance of an index
-instance_of : ℕ → InstanceId
-instance_of si = record { 0 = 255 - si }
-
 -- from a station after k turns, of 62 at most
-ends_from : (turns spi count k : ℕ) (s : Station) → turns + k ≡ 62 → count ≤ 255 → IsAfter spi count k s → (stations : List Station) × (end : End) × WalkFrom (static_table spi count) (s ∷ stations) end
-unfolding instance_of
+ends_from : (turns spi count k : ℕ) (s : Station) → turns + k ≡ 62 → count ≤ 255 → IsAfter spi count k s → (end : End) × WalksOn spi count s end
 ends_from zero spi count k s sum few after =
     let ttl = after.ttl in
-    let low = lowered_above s.header.base.ttl (omega (arith, ttl, sum)) in
-    ([], Drop Ttl, omega (arith, low, ttl, sum))
+    let low = low_at spi count k s after in
+    let spent : IsSpent s = omega (arith, low, ttl, sum) in
+    (Drop Ttl, record { later = []; lookups = 0; visits = s.visits; walk = (spent, refl, refl) })
 ends_from (suc turns) spi count k s sum few after =
     let ttl = after.ttl in
     let si = after.si in
-    let low = lowered_above s.header.base.ttl (omega (arith, ttl, sum)) in
-    let alive : IsUnderWay s = λ spent. omega (arith, low, ttl, sum, spent) in
-    elim (cases_lt (s.header.path.si + count) 256) [
-      | inl past ↦ ([], Egress, (alive, subst (λ n. IsAnswer (static_table spi count) n s.header.path.si Ended) (sym after.named) (says_ended spi count s.header.path.si few past)))
+    let low = low_at spi count k s after in
+    let alive : IsSpent s → ⊥ = λ spent. omega (arith, low, ttl, sum, spent) in
+    elim (cases_lt (s.header.head.path.si + count) 256) [
+      | inl past ↦
+          (let answered : IsAnswer (static_table spi count) s.header.head.path.spi s.header.head.path.si Ended =
+          subst (λ n. IsAnswer (static_table spi count) n s.header.head.path.si Ended) (sym after.named) (says_ended spi count s.header.head.path.si few past) in
+          (Egress, record { later = []; lookups = 1; visits = s.visits; walk = record { alive = alive; answer = Ended; answered = answered; follows = refl } }))
       | inr there ↦
-          (let answer : IsAnswer (static_table spi count) s.header.path.spi s.header.path.si (At s.header.path.si s.forwarder (instance_of s.header.path.si)) =
-          subst (λ f. IsAnswer (static_table spi count) s.header.path.spi s.header.path.si (At s.header.path.si f (instance_of s.header.path.si))) (sym after.home)
-          (subst (λ n. IsAnswer (static_table spi count) n s.header.path.si (At s.header.path.si here (instance_of s.header.path.si))) (sym after.named) (says_at spi count s.header.path.si (omega (arith, si)) there)) in
-          let next : Station = record s { frame = pass s.frame; header = moved s.header (s.header.path.si - 1); visits = s.visits ++ instance_of s.header.path.si ∷ [] } in
-          let turn : Turn (static_table spi count) s (GoesOn next) = (alive, inr (s.header.path.si, instance_of s.header.path.si, answer, refl)) in
-          let rest = ends_from turns spi count (suc k) next (omega (arith, sum)) few (next_turn spi count k s next few after turn) in
-          (next ∷ rest.0, rest.1, (turn, rest.2)))
+          (let answered : IsAnswer (static_table spi count) s.header.head.path.spi s.header.head.path.si (At s.header.head.path.si here (own_instance s.header.head.path.si)) =
+          subst (λ n. IsAnswer (static_table spi count) n s.header.head.path.si (At s.header.head.path.si here (own_instance s.header.head.path.si))) (sym after.named)
+          (says_at spi count s.header.head.path.si (omega (arith, si)) there) in
+          let turn = own_turn spi count s after.home alive answered in
+          let rest = ends_from turns spi count (suc k) (next_station s) (omega (arith, sum)) few (next_turn spi count k s (next_station s) few after turn) in
+          (rest.0, turn_before spi count s (next_station s) rest.0 turn rest.1))
     ]
 
 -- every walk over a static path ends
-pub some_end : (spi count : ℕ) (frame : List ℕ) → count ≤ 255 → (end : End) × WalksTo spi count frame end
-some_end spi count frame few =
-    let walk = ends_from 62 spi count 0 (first_station spi frame) refl few
-    (record { home = refl; named = refl; ttl = refl; si = refl; visited = omega arith; alive = omega arith }) in
-    (walk.1, (walk.0, walk.2))
+pub some_end : (spi count : ℕ) (frame : Captured) → count ≤ 255 → (end : End) × WalksTo spi count frame end
+some_end spi count frame few = ends_from 62 spi count 0 (first_station here frame (static_header spi)) refl few (is_first spi count frame)

@@ -1,32 +1,18 @@
-ghost use Rattle.std.specs.Prelude.{◌≡◌, ℕ, ◌≤◌, ◌<◌, List, length, MatchOption, IfNone};
+ghost use Rattle.std.specs.Prelude.{◌≡◌, ◌≤◌, ◌<◌, length, MatchOption, IfNone};
+ghost use Rattle.net_frames.specs.Captured.{Captured};
 ghost use Rattle.nsh_headers.specs.Head.{IsHead};
 ghost use Rattle.nsh_headers.specs.Edit.{ttl_in};
-ghost use Rattle.static_walks.specs.Answers.{IsAnswer};
-ghost use Rattle.static_walks.specs.TurnSteps.{EndsAt, GoesOnAt, IsOwnHop};
-ghost use Rattle.static_walks.specs.Walks.{Station, WalksTo, first_header, here, pass as frame_passed, static_table};
+ghost use Rattle.service_functions.specs.Serving.{FrameBy};
+ghost use Rattle.service_functions.specs.declared.functions.Function.TheVariants.{Pass};
+ghost use Rattle.path_selection.specs.Answers.{IsAnswer};
+ghost use Rattle.classifier.specs.Stations.{Station};
+ghost use Rattle.static_walks.specs.TurnSteps.{GoesOnAt, IsOwnHop};
+ghost use Rattle.static_walks.specs.Walks.{EachWalksTo, WalksOn, here, static_header, static_table};
 
-use crate::paths::Answer;
 use nsh_headers::{Base, NshHead, ServicePath, encode_head, lower_ttl, set_si};
+use path_selection::Answer;
+use record_text::{End, Reason};
 use wire_base::{ForwarderId, InstanceId, Spi, be_u24};
-
-/// Why a frame was dropped on its way.
-#[derive(Clone, Copy, Debug, PartialEq, Eq)]
-pub enum Reason {
-    /// The TTL came to 0.
-    Ttl,
-    /// No path has the frame's service path identifier.
-    NoPath,
-    /// The hop of this service index has no instance.
-    NoInstance(u8),
-}
-
-/// How a frame's walk ends.
-#[derive(Clone, Copy, Debug, PartialEq, Eq)]
-pub enum End {
-    /// The path ended: the header is taken off and the frame goes out.
-    Egress,
-    Drop(Reason),
-}
 
 /// A path of `count` functions that pass every frame, at one forwarder, with the service indexes from
 /// 255 down.
@@ -58,7 +44,7 @@ impl StaticPath {
 
 /// The header that a frame gets on its way into a static path: Ethernet behind it, no metadata.
 fn first_head(spi: Spi) -> NshHead
-    ensures { result ≡ first_header spi }
+    ensures { result ≡ (static_header spi).head }
 {
     NshHead {
         base: Base {
@@ -79,8 +65,8 @@ fn first_head(spi: Spi) -> NshHead
 fn take_turn(path: &StaticPath, header: &mut [u8]) -> Option<End>
     requires room { 8 ≤ length header.old }
     requires alive { 0 < ttl_in header.old }
-    ensures turn { (s : Station) → IsHead header.old s.header → s.forwarder ≡ here
-        → MatchOption result (GoesOnAt path.now.spi path.now.count s header.new) (EndsAt path.now.spi path.now.count s) }
+    ensures turn { (s : Station) → IsHead header.old s.header.head → s.forwarder ≡ here
+        → MatchOption result (GoesOnAt path.now.spi path.now.count s header.new) (WalksOn path.now.spi path.now.count s) }
     ensures room { length header.new ≡ length header.old }
     ensures alive { IfNone result (0 < ttl_in header.new) }
     ensures fewer { IfNone result (ttl_in header.new < ttl_in header.old) }
@@ -102,7 +88,7 @@ fn take_turn(path: &StaticPath, header: &mut [u8]) -> Option<End>
 /// Walks a frame over a static path, from a header with TTL 63 and SI 255, turn after turn. The header
 /// stands as its 8 bytes and is changed in place; the functions of the path leave the frame as it is.
 pub fn walk_frame(path: &StaticPath, frame: &[u8]) -> End
-    ensures { WalksTo path.now.spi path.now.count frame.now result }
+    ensures { EachWalksTo path.now.spi path.now.count frame.now result }
 {
     let mut header = encode_head(&first_head(path.spi));
     let mut served = frame;
@@ -116,7 +102,7 @@ pub fn walk_frame(path: &StaticPath, frame: &[u8]) -> End
 
 /// The function `pass`: the frame, unchanged.
 fn pass(frame: &[u8]) -> &[u8]
-    ensures { result.now ≡ frame_passed frame.now }
+    ensures { (f : Captured) → f.bytes ≡ frame.now → result.now ≡ (FrameBy Pass f).bytes }
 {
     frame
 }

@@ -11,9 +11,10 @@ use Rattle.pcap_io.specs.Heads.{file_head}
 use Rattle.pcap_io.specs.Egress.{packet_left, packets_left, egress_of}
 use Rattle.pcap_io.proofs.OneReading.{first_frames}
 use Rattle.commands.specs.Fronts.{IsFront}
-use Rattle.static_walks.specs.declared.walks.End.{End}
-use Rattle.static_walks.specs.declared.walks.End.TheVariants.{Egress, Drop}
-use Rattle.static_walks.specs.declared.walks.Reason.TheVariants.{Ttl}
+use Rattle.record_text.specs.declared.records.End.{End}
+use Rattle.record_text.specs.declared.records.End.TheVariants.{Egress, Bypass, Drop}
+use Rattle.record_text.specs.declared.records.Reason.TheVariants.{Ttl}
+use Rattle.forwarder.specs.Workspaces.{taken_in}
 use Rattle.static_walks.proofs.WalkEnds.{egress_up_to, spent_above, static_end, one_end}
 use Rattle.walk_command.specs.WalkCommand.{left_at, leaving_of, WalksOf, WroteFront, Writes, BeginsWithFrames, whole_egress, bare_egress}
 use Rattle.walk_command.specs.WalkSteps.{kept_at}
@@ -30,6 +31,7 @@ zip_and_one R (a ∷ as') (b ∷ bs) x y all one = (all.0, zip_and_one R as' bs 
 -- what a frame leaves is its packet, or nothing
 left_is : (form : Form) (frame : Captured) (end : End) → packet_left form frame (left_at frame end) ≡ kept_at end (packet form frame)
 left_is form frame Egress = refl
+left_is form frame Bypass = refl
 left_is form frame (Drop why) = refl
 
 left_and_one : (R : Captured → End → Type 0) (form : Form) (frames : List Captured) (ends : List End) (frame : Captured) (end : End) → AllZip R frames ends → packets_left form (frames ++ frame ∷ []) (leaving_of (frames ++ frame ∷ []) (ends ++ end ∷ [])) ≡ packets_left form frames (leaving_of frames ends) ++ kept_at end (packet form frame)
@@ -53,7 +55,7 @@ all_left spi count form [] [] some few walked = refl
 all_left spi count form [] (end ∷ ends) some few walked = absurd walked
 all_left spi count form (frame ∷ frames) [] some few walked = absurd walked
 all_left spi count form (frame ∷ frames) (end ∷ ends) some few walked =
-    let out : end ≡ Egress = static_end spi count frame.bytes end some (omega (arith, few)) walked.0 ∙ sym (egress_up_to count few) in
+    let out : end ≡ Egress = static_end spi count (taken_in frame.bytes frame.original) end some (omega (arith, few)) walked.0 ∙ sym (egress_up_to count few) in
     ap (λ e. packet_left form frame (left_at frame e) ++ packets_left form frames (leaving_of frames ends)) out
     ∙ (ap (λ ps. packet form frame ++ ps) (all_left spi count form frames ends some few walked.1)
     ∙ sym (flat_map-cons (packet form) frame frames))
@@ -63,7 +65,7 @@ none_left : (spi count : ℕ) (form : Form) (frames : List Captured) (ends : Lis
 none_left spi count form [] ends many few walked = refl
 none_left spi count form (frame ∷ frames) [] many few walked = absurd walked
 none_left spi count form (frame ∷ frames) (end ∷ ends) many few walked =
-    let spent : end ≡ Drop Ttl = static_end spi count frame.bytes end (omega (arith, many)) few walked.0 ∙ sym (spent_above count many) in
+    let spent : end ≡ Drop Ttl = static_end spi count (taken_in frame.bytes frame.original) end (omega (arith, many)) few walked.0 ∙ sym (spent_above count many) in
     ap (λ e. packet_left form frame (left_at frame e) ++ packets_left form frames (leaving_of frames ends)) spent ∙ none_left spi count form frames ends many few walked.1
 
 pub all_out : (spi count : ℕ) (form : Option Form) (frames : List Captured) (ends : List End) → 1 ≤ count → count ≤ 61 → WalksOf spi count frames ends → egress_of form frames (leaving_of frames ends) ≡ whole_egress form frames
@@ -82,7 +84,7 @@ first_left spi count form [] more ends others some most walked all = (packets_le
 first_left spi count form (f ∷ fs) more [] others some most walked all = absurd walked
 first_left spi count form (f ∷ fs) more (e ∷ es) [] some most walked all = absurd all
 first_left spi count form (f ∷ fs) more (e ∷ es) (o ∷ os) some most walked all =
-    let same : o ≡ e = one_end spi count f.bytes o e some most all.0 walked.0 in
+    let same : o ≡ e = one_end spi count (taken_in f.bytes f.original) o e some most all.0 walked.0 in
     let deeper = first_left spi count form fs more es os some most walked.1 all.1 in (
       deeper.0,
       ap (λ x. packet_left form f (left_at f x) ++ packets_left form (fs ++ more) (leaving_of (fs ++ more) os)) same

@@ -16,7 +16,7 @@ use Rattle.commands.specs.declared.statuses.Status.{Status}
 use Rattle.commands.specs.declared.statuses.Status.TheVariants.{Ok, Words, File, Capture, Memory, Long}
 use Rattle.commands.specs.Commands.{Behaves, NoneRose}
 use Rattle.commands.proofs.CommandLemmas.{fails_absent}
-use Rattle.walk_command.specs.WalkCommand.{Walk, IsWalk, WalkRuns, WalkWants, FileAsks, CaptureAsks, walk_ports}
+use Rattle.walk_command.specs.WalkCommand.{Walk, IsWalk, WalkRuns, WalkWants, FileAsks, walk_ports}
 
 -- a walk with these words
 walk_with : ℕ → ℕ → List ℕ → List ℕ → Walk

@@ -28,9 +28,10 @@ use Rattle.pcap_io.proofs.ReadsLemmas.{size_taken, reads_refused}
 use Rattle.commands.specs.Fronts.{IsFront}
 use Rattle.commands.specs.Pieces.{NoneBound}
 use Rattle.commands.proofs.PlaceLemmas.{same_or_other}
-use Rattle.static_walks.specs.declared.walks.End.{End}
+use Rattle.record_text.specs.declared.records.End.{End}
 use Rattle.static_walks.specs.declared.walks.StaticPath.{StaticPath}
-use Rattle.static_walks.specs.Walks.{WalksTo}
+use Rattle.static_walks.specs.Walks.{EachWalksTo, WalksTo}
+use Rattle.forwarder.specs.Workspaces.{taken_in}
 use Rattle.walk_command.specs.declared.walk_streams.WalkFault.{WalkFault}
 use Rattle.walk_command.specs.declared.walk_streams.WalkFault.TheVariants as fault
 use Rattle.walk_command.specs.WalkCommand.{leaving_of, BeginsWithFrames, Writes}
@@ -106,19 +107,19 @@ state_begun path input left out old new form was is history s =
     }
 
 -- a frame was given, and what it leaves is put behind what was put
-pub state_next : (path : StaticPath) (input left out : List ℕ) (old new : Kept) (form : Form) (head : PacketHead) (end : End) → old.form ≡ Some form → new.form ≡ Some form → new.lent ≡ packet form (lent_frame head new) → WalksTo path.spi path.count (drop 16 new.lent) end
+pub state_next : (path : StaticPath) (input left out : List ℕ) (old new : Kept) (form : Form) (head : PacketHead) (end : End) → old.form ≡ Some form → new.form ≡ Some form → new.lent ≡ packet form (lent_frame head new) → EachWalksTo path.spi path.count (drop 16 new.lent) end
     → ((taken : List ℕ) (given : List Captured) → Stands old taken given → Stands new taken (given ++ lent_frame head new ∷ [])) → State path input left out old → State path input left (out ++ kept_at end new.lent) new
 state_next path input left out old new form head end was is lent walk history s =
     let frame : Captured = lent_frame head new in
     let before : out ≡ egress_of (Some form) s.given (leaving_of s.given s.ends) = s.out_is ∙ ap (λ (f : Option Form). egress_of f s.given (leaving_of s.given s.ends)) was in
     let after : egress_of new.form (s.given ++ frame ∷ []) (leaving_of (s.given ++ frame ∷ []) (s.ends ++ end ∷ [])) ≡ egress_of (Some form) s.given (leaving_of s.given s.ends) ++ kept_at end (packet form frame) =
     ap (λ (f : Option Form). egress_of f (s.given ++ frame ∷ []) (leaving_of (s.given ++ frame ∷ []) (s.ends ++ end ∷ []))) is
-    ∙ egress_and_one (λ frame end. WalksTo path.spi path.count frame.bytes end) form s.given s.ends frame end s.walked in
+    ∙ egress_and_one (λ frame end. WalksTo path.spi path.count (taken_in frame.bytes frame.original) end) form s.given s.ends frame end s.walked in
     record {
       given = s.given ++ frame ∷ [];
       ends = s.ends ++ end ∷ [];
       follows = record { taken = s.follows.taken; joined = s.follows.joined; stands = history s.follows.taken s.given s.follows.stands };
-      walked = zip_and_one (λ frame end. WalksTo path.spi path.count frame.bytes end) s.given s.ends frame end s.walked walk;
+      walked = zip_and_one (λ frame end. WalksTo path.spi path.count (taken_in frame.bytes frame.original) end) s.given s.ends frame end s.walked (walk (taken_in frame.bytes frame.original) refl);
       out_is = ap (λ l. l ++ kept_at end new.lent) before ∙ ap (λ l. egress_of (Some form) s.given (leaving_of s.given s.ends) ++ kept_at end l) lent ∙ sym after;
     }
 

@@ -1,17 +1,15 @@
 -- From the outcome of the stream to what is done on the bound ports, and from there to what the answers of `walk` say.
-use Rattle.std.proofs.Common.{◌≡◌, ◌≢◌, inl, inr, ℕ, ◌≤◌, Bool, true, false, List, [], Result, Ok, Err, Option, None, Some, refl, sym, ap, ◌∙◌, subst}
+use Rattle.std.proofs.Common.{◌≡◌, ◌≢◌, inl, inr, ℕ, ◌≤◌, Bool, true, false, List, Result, Ok, Err, Option, Some, refl, sym, ap, ◌∙◌, subst}
 use Rattle.std.specs.Result.{IsErrOf}
 use Rattle.sfc_desk.specs.declared.ports.Port.{Port}
 use Rattle.sfc_desk.specs.declared.ports.Port.TheVariants.{Capture, Egress}
 use Rattle.sfc_desk.specs.Desks.{Shown, Files, Rose, raised}
-use Rattle.pcap_io.specs.declared.reasons.Refusal.{Refusal}
 use Rattle.commands.specs.declared.statuses.Status.{Status}
 use Rattle.commands.specs.declared.statuses.Status.TheVariants as status
 use Rattle.commands.specs.Openings.{Opened}
 use Rattle.commands.specs.Pieces.{NoneBound}
 use Rattle.commands.specs.Places.{HasPort, IsRow}
 use Rattle.commands.proofs.PlaceLemmas.{opens_stays, same_or_other}
-use Rattle.static_walks.specs.declared.walks.StaticPath.{StaticPath}
 use Rattle.walk_command.specs.declared.walk_streams.WalkFault.{WalkFault}
 use Rattle.walk_command.specs.declared.walk_streams.WalkFault.TheVariants as fault
 use Rattle.walk_command.specs.declared.walk_words.WalkWords.{WalkWords}

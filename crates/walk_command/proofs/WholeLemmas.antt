@@ -6,7 +6,8 @@ use Rattle.pcap_io.specs.declared.reasons.Refusal.{Refusal}
 use Rattle.pcap_io.specs.Reads.{Reads}
 use Rattle.pcap_io.specs.Egress.{egress_of}
 use Rattle.pcap_io.proofs.OneReading.{one_reading}
-use Rattle.static_walks.specs.declared.walks.End.{End}
+use Rattle.record_text.specs.declared.records.End.{End}
+use Rattle.forwarder.specs.Workspaces.{taken_in}
 use Rattle.static_walks.proofs.WalkEnds.{one_end, some_end}
 use Rattle.walk_command.specs.WalkCommand.{WalksOf, Writes, leaving_of}
 
@@ -16,7 +17,7 @@ use Rattle.walk_command.specs.WalkCommand.{WalksOf, Writes, leaving_of}
 walks_end : (spi count : ℕ) (frames : List Captured) → count ≤ 255 → (ends : List End) × WalksOf spi count frames ends
 walks_end spi count [] few = ([], tt)
 walks_end spi count (frame ∷ frames) few =
-    let own = some_end spi count frame.bytes few in
+    let own = some_end spi count (taken_in frame.bytes frame.original) few in
     let rest = walks_end spi count frames few in
     (own.0 ∷ rest.0, (own.1, rest.1))
 
@@ -35,7 +36,7 @@ same_ends spi count [] (e ∷ es) others some few walked walked' = absurd walked
 same_ends spi count (f ∷ fs) [] others some few walked walked' = absurd walked
 same_ends spi count (f ∷ fs) (e ∷ es) [] some few walked walked' = absurd walked'
 same_ends spi count (f ∷ fs) (e ∷ es) (o ∷ os) some few walked walked' =
-    ap (λ (x : End). x ∷ es) (one_end spi count f.bytes e o some few walked.0 walked'.0)
+    ap (λ (x : End). x ∷ es) (one_end spi count (taken_in f.bytes f.original) e o some few walked.0 walked'.0)
     ∙ ap (λ (xs : List End). o ∷ xs) (same_ends spi count fs es os some few walked.1 walked'.1)
 
 -- what is written for an input, and where it is refused

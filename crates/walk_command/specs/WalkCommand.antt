@@ -15,8 +15,9 @@ use Rattle.pcap_io.specs.Reads.{Reads}
 use Rattle.pcap_io.specs.Egress.{Leaving, egress_of}
 use Rattle.commands.specs.declared.statuses.Status.{Status}
 use Rattle.commands.specs.declared.statuses.Status.TheVariants as status
-use Rattle.static_walks.specs.declared.walks.End.{End}
-use Rattle.static_walks.specs.declared.walks.End.TheVariants.{Egress, Drop}
+use Rattle.record_text.specs.declared.records.End.{End}
+use Rattle.record_text.specs.declared.records.End.TheVariants.{Egress}
+use Rattle.forwarder.specs.Workspaces.{taken_in}
 use Rattle.commands.specs.Commands.{CommandCall}
 use Rattle.commands.specs.Fronts.{IsFront}
 use Rattle.commands.specs.Outputs.{Outputs, TookAll, TookFrontsOfEach}
@@ -50,7 +51,7 @@ walk_ports walk = opens ports.Capture walk.capture ∷ opens ports.Egress walk.e
 -- what a frame leaves: itself, where its walk ended as egress
 abbrev pub left_at : Captured → End → Option Leaving
 left_at frame Egress = Some (record { original = frame.original; bytes = frame.bytes })
-left_at frame (Drop why) = None
+left_at frame _ = None
 
 -- what the frames leave, one entry for each
 abbrev pub leaving_of : List Captured → List End → List (Option Leaving)
@@ -58,9 +59,9 @@ leaving_of [] ends = []
 leaving_of (frame ∷ frames) [] = []
 leaving_of (frame ∷ frames) (end ∷ ends) = left_at frame end ∷ leaving_of frames ends
 
--- how the walk of each frame over the static path ends
+-- how the walk of each frame over the static path ends, as a forwarder takes the frame in
 abbrev pub WalksOf : ℕ → ℕ → List Captured → List End → Type 0
-WalksOf spi count frames ends = AllZip (λ frame end. WalksTo spi count frame.bytes end) frames ends
+WalksOf spi count frames ends = AllZip (λ frame end. WalksTo spi count (taken_in frame.bytes frame.original) end) frames ends
 
 -- A reader of the input gets these frames and then this stop, and the output is the egress of those that leave: the
 -- input's own frames and times.

@@ -16,8 +16,8 @@ use Rattle.pcap_io.specs.Streams.{Stands}
 use Rattle.pcap_io.specs.Egress.{egress_of}
 use Rattle.commands.specs.declared.writing.WriteFault.{WriteFault}
 use Rattle.commands.specs.declared.writing.WriteFault.TheVariants as write
-use Rattle.static_walks.specs.declared.walks.End.{End}
-use Rattle.static_walks.specs.declared.walks.End.TheVariants.{Egress, Drop}
+use Rattle.record_text.specs.declared.records.End.{End}
+use Rattle.record_text.specs.declared.records.End.TheVariants.{Egress}
 use Rattle.static_walks.specs.declared.walks.StaticPath.{StaticPath}
 use Rattle.walk_command.specs.declared.walk_streams.WalkFault.{WalkFault}
 use Rattle.walk_command.specs.declared.walk_streams.WalkFault.TheVariants as fault
@@ -31,7 +31,7 @@ walk_of said = record { spi = said.path.spi; count = said.path.count; capture = 
 -- what a packet leaves where its frame's walk ended so: all of it, or nothing
 abbrev pub kept_at : End → List ℕ → List ℕ
 kept_at Egress packet = packet
-kept_at (Drop why) packet = []
+kept_at _ packet = []
 
 -- a write failed, or there was no memory
 abbrev pub IsWalkFault : WriteFault → WalkFault → Type 0

@@ -9,14 +9,15 @@ ghost use Rattle.pcap_io.specs.Calls.{HeldIn};
 ghost use Rattle.pcap_io.specs.Heads.{file_head};
 ghost use Rattle.commands.specs.Fronts.{IsFront};
 ghost use Rattle.commands.specs.Pieces.{NoneBound};
-ghost use Rattle.static_walks.specs.Walks.{WalksTo};
+ghost use Rattle.static_walks.specs.Walks.{EachWalksTo};
 ghost use Rattle.static_walks.specs.declared.walks.StaticPath.{StaticPath as Path};
 ghost use Rattle.walk_command.specs.WalkSteps.{kept_at, IsPutFault, NoWriteFault, NeverReads, NeverPuts, Follows, State, Begins, Puts, Reaches, Known, Ends, IsShortWithin};
 
 use commands::{PIECE, WriteFault, empty, fill};
 use pcap_io::{CaptureFault, CaptureFeed, Form, Refusal, capture_head};
+use record_text::End;
 use sfc_desk::{Desk, Failed, Port};
-use static_walks::{End, StaticPath, walk_frame};
+use static_walks::{StaticPath, walk_frame};
 use std::alloc::Global;
 use wire_base::OutOfMemory;
 
@@ -75,7 +76,7 @@ impl From<WriteFault> for WalkFault {
 /// How the walk of a packet's frame ends. The frame stands behind the packet's head of 16 bytes.
 fn walk_packet(path: &StaticPath, packet: &[u8]) -> End
     requires { 16 ≤ length packet.now }
-    ensures { WalksTo path.now.spi path.now.count (drop 16 packet.now) result }
+    ensures { EachWalksTo path.now.spi path.now.count (drop 16 packet.now) result }
 {
     walk_frame(path, &packet[16..])
 }
@@ -86,6 +87,7 @@ fn what_leaves(end: End, packet: &[u8]) -> &[u8]
 {
     match end {
         End::Egress => packet,
+        End::Bypass => &packet[..0],
         End::Drop(_) => &packet[..0],
     }
 }

@@ -1,11 +1,12 @@
 use Rattle.std.proofs.Common.{◌<◌}
+use Rattle.net_frames.specs.Captured.{Captured}
 use Rattle.nsh_headers.specs.Edit.{ttl_in}
 use Rattle.static_walks.proofs.WalkLemmas.{Stands}
 use Rattle.static_walks.proofs.walks.walk_frame.Given as goal
 
 abbrev pub invariant-turns : goal.invariant-turns
 invariant-turns l = record {
-  stands : Stands l.path.spi l.path.count l.fn.frame l.header;
+  stands : (frame : Captured) → Stands l.path.spi l.path.count frame l.header;
   alive : 0 < ttl_in l.header;
 }
 

@@ -6,7 +6,7 @@ use Rattle.pcap_io.specs.Captures.{packet}
 use Rattle.pcap_io.specs.Calls.{lent_frame}
 use Rattle.walk_command.specs.WalkSteps.{kept_at}
 use Rattle.commands.specs.Fronts.{IsFront}
-use Rattle.static_walks.specs.Walks.{WalksTo}
+use Rattle.static_walks.specs.Walks.{EachWalksTo}
 use Rattle.walk_command.specs.WalkSteps.{State}
 use Rattle.walk_command.proofs.WalkLemmas.{state_next, state_same, state_put, if_some, next_some, next_none, front_of_state, put_fault_puts}
 use Rattle.walk_command.proofs.walk_streams.put_packets.Goals as goal
@@ -18,7 +18,7 @@ returns-in-Err-put_packet-clause-puts g c = λ tells input left s.
     if_some c.in-Ok-Some.field-0 c.in-Ok-Some.field-0-0 _ c.in-Ok-Some.field-0-is (if_some c.packets.feed.form c.args.form _ c.packets.invariant.form c.in-Ok-Some.ensures.gives) in
     let out : List ℕ = (g.D.Desk.at c.packets.desk ports.Egress).written ++ c.packets.buffer.items in
     let next : State c.args.path.now input left (out ++ kept_at c.walk_packet-end.result c.next_packet.new.self.lent) c.next_packet.new.self =
-    state_next c.args.path.now input left out c.packets.feed c.next_packet.new.self c.args.form c.in-Ok-Some.field-0-0 c.walk_packet-end.result c.packets.invariant.form is lent (subst (λ (p : List ℕ). WalksTo c.args.path.now.spi c.args.path.now.count (drop 16 p) c.walk_packet-end.result) c.packet.ensures c.walk_packet-end.ensures)
+    state_next c.args.path.now input left out c.packets.feed c.next_packet.new.self c.args.form c.in-Ok-Some.field-0-0 c.walk_packet-end.result c.packets.invariant.form is lent (subst (λ (p : List ℕ). EachWalksTo c.args.path.now.spi c.args.path.now.count (drop 16 p) c.walk_packet-end.result) c.packet.ensures c.walk_packet-end.ensures)
     (λ taken given st. next_some c.in-Ok-Some.field-0 c.in-Ok-Some.field-0-0 c.next_packet.new.self taken given c.in-Ok-Some.field-0-is (c.in-Ok-Some.ensures.history taken given st))
     (c.packets.invariant.state tells input left s) in
     let written : List ℕ = (g.D.Desk.at c.put_packet.new.desk ports.Egress).written in
@@ -39,7 +39,7 @@ packets-preserved g c =
           let put : out' ≡ out ++ kept_at c.walk_packet-end.result c.next_packet.new.self.lent =
           c.in_default.ensures.ok tells ∙ ap (λ (p : List ℕ). out ++ kept_at c.walk_packet-end.result p) c.packet-in-Ok-Some.ensures in
           state_put c.args.path.now input left (out ++ kept_at c.walk_packet-end.result c.next_packet.new.self.lent) out' c.next_packet.new.self put
-          (state_next c.args.path.now input left out c.packets.feed c.next_packet.new.self c.args.form c.in-Ok-Some.field-0-0 c.walk_packet-end.result c.packets.invariant.form is lent (subst (λ (p : List ℕ). WalksTo c.args.path.now.spi c.args.path.now.count (drop 16 p) c.walk_packet-end.result) c.packet.ensures c.walk_packet-end.ensures)
+          (state_next c.args.path.now input left out c.packets.feed c.next_packet.new.self c.args.form c.in-Ok-Some.field-0-0 c.walk_packet-end.result c.packets.invariant.form is lent (subst (λ (p : List ℕ). EachWalksTo c.args.path.now.spi c.args.path.now.count (drop 16 p) c.walk_packet-end.result) c.packet.ensures c.walk_packet-end.ensures)
           (λ taken given st. next_some c.in-Ok-Some.field-0 c.in-Ok-Some.field-0-0 c.next_packet.new.self taken given c.in-Ok-Some.field-0-is (c.in-Ok-Some.ensures.history taken given st))
           (c.packets.invariant.state tells input left s));
       form = is;

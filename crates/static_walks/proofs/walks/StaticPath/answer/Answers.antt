@@ -1,8 +1,8 @@
 -- The hop of an index serves it; below the last hop the path has ended.
 use Rattle.std.proofs.Common.{◌≡◌, ◌-◌, ap, refl, sym, ◌∙◌, subst, arith}
 use Rattle.wire_base.specs.declared.ids.InstanceId.{InstanceId}
-use Rattle.static_walks.specs.declared.paths.Answer.TheVariants.{Ended, At}
-use Rattle.static_walks.specs.Answers.{IsAnswer}
+use Rattle.path_selection.specs.declared.answers.Answer.TheVariants.{Ended, At}
+use Rattle.path_selection.specs.Answers.{IsAnswer}
 use Rattle.static_walks.specs.Walks.{here, static_table}
 use Rattle.static_walks.proofs.StaticLemmas.{says_at, says_ended}
 use Rattle.static_walks.proofs.walks.StaticPath.answer.Goals as goal
