@@ -1,0 +1,5 @@
+pub mod LowestLemmas
+pub mod UsableLemmas
+pub mod AcceptedLemmas
+pub mod PathLemmas
+pub mod OneSelection

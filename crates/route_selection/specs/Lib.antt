@@ -1,0 +1,5 @@
+pub mod Lowest
+pub mod Usable
+pub mod Accepted
+pub mod Choices
+pub mod Selections

@@ -1,0 +1,31 @@
+//! That routes have one selection.
+
+ghost use Rattle.std.specs.Prelude.{◌≡◌, ◌↔◌, List, Contains};
+ghost use Rattle.sfc_routes.specs.declared.route_changes.RouteChange.{RouteChange};
+ghost use Rattle.sfc_routes.specs.Entries.{Entries, IsRoster};
+ghost use Rattle.sfc_routes.specs.PeerRoutes.{PeerRoute};
+ghost use Rattle.sfc_routes.specs.LastWords.{Routes, Stands};
+ghost use Rattle.sfc_routes.specs.RouteLists.{IsRouteList};
+ghost use Rattle.path_selection.specs.Paths.{ServicePath};
+ghost use Rattle.route_selection.specs.Selections.{IsSelection};
+
+/// A list of routes has at most one selection; `select_all` gives one.
+pub fn a_list_has_one_selection()
+    ensures { (roster : Entries) (routes : List PeerRoute) (table other : List ServicePath) → IsRoster roster → IsRouteList routes
+        → IsSelection roster routes table → IsSelection roster routes other → table ≡ other }
+{}
+
+/// Lists of the same routes have one selection.
+pub fn same_routes_have_one_selection()
+    ensures { (roster : Entries) (routes others : List PeerRoute) (table other : List ServicePath) → IsRoster roster
+        → IsRouteList routes → IsRouteList others → ((e : PeerRoute) → Contains routes e ↔ Contains others e)
+        → IsSelection roster routes table → IsSelection roster others other → table ≡ other }
+{}
+
+/// Changes with the same last word on each peer and NLRI have one selection.
+pub fn last_words_have_one_selection()
+    ensures { (roster : Entries) (routes others : List PeerRoute) (changes more : List RouteChange) (table other : List ServicePath)
+        → IsRoster roster → IsRouteList routes → IsRouteList others → Stands routes changes → Stands others more
+        → ((e : PeerRoute) → Routes changes e ↔ Routes more e)
+        → IsSelection roster routes table → IsSelection roster others other → table ≡ other }
+{}
