@@ -1,0 +1,13 @@
+pub mod EachLemmas
+pub mod TextLemmas
+pub mod OneLemmas
+pub mod OneRoute
+pub mod FallLemmas
+pub mod SplitLineLemmas
+pub mod LineLemmas
+pub mod RunLemmas
+pub mod TextReadings
+pub mod ExactLemmas
+pub mod PrintedLemmas
+pub mod DecisionLemmas
+pub mod TakesLemmas
