@@ -3,3 +3,5 @@ pub mod UsableLemmas
 pub mod AcceptedLemmas
 pub mod PathLemmas
 pub mod OneSelection
+pub mod RangeLemmas
+pub mod NameLemmas

@@ -17,7 +17,7 @@ module _ {X : Type 0} (name : X → List ℕ) (peer : X → ℕ) where
   all_at : (P : X → Type 0) (xs : List X) (i : ℕ) (d : X) → i < length xs → AllByRecursion P xs → P (get_or xs i d)
   all_at P xs i d w a = All-get_or P xs i d w (All-from_recursion P xs a)
 
-  at_places : (xs : List X) → Ascends name xs → (i j : ℕ) (d : X) → i < j → j < length xs → IsBefore (name (get_or xs i d)) (name (get_or xs j d))
+  pub at_places : (xs : List X) → Ascends name xs → (i j : ℕ) (d : X) → i < j → j < length xs → IsBefore (name (get_or xs i d)) (name (get_or xs j d))
   at_places [] r i j d lt h = absurd (omega (arith, h))
   at_places (x ∷ xs) r zero zero d lt h = absurd (omega (arith, lt))
   at_places (x ∷ xs) r zero (suc j) d lt h = all_at (λ (y : X). IsBefore (name x) (name y)) xs j d (omega (arith, h)) r.0

@@ -1,5 +1,5 @@
 -- Which candidates a hop names, and which of them serves (after RFC 9015, sections 3.2 and 7).
-use Rattle.std.specs.Prelude.{ℕ, ◌+◌, ◌%◌, ◌==◌, ◌&&◌, ◌||◌, Bool, false, Option, List, [], ◌∷◌, map, filter, length}
+use Rattle.std.specs.Prelude.{ℕ, ◌+◌, ◌%◌, ◌==◌, ◌≤◌, ◌&&◌, ◌||◌, Bool, false, Option, List, [], ◌∷◌, map, filter, length}
 use Rattle.std.specs.List.{list_any, slice_get}
 use Rattle.std.specs.Cmp.Lexicographic.{slice_cmp}
 use Rattle.std.specs.Ordering.{nat_cmp, is_eq}
@@ -44,3 +44,12 @@ choice_among number seats = slice_get seats (number % length seats)
 -- the row of a hop: the number that chooses is its path's SPI and its own SI together
 abbrev pub row_at : List Candidate → ℕ → ℕ → List HopPart → HopRow
 row_at usable spi si inside = record { si = si; choice = choice_among (spi + si) (map seat (candidates usable inside)) }
+
+-- an SFT of the part has a type that is not lower, or not higher; other parts have no type
+abbrev pub IsFrom : ℕ → HopPart → Type 0
+IsFrom low (hop_part.Sft kind rds) = low ≤ kind
+IsFrom low (hop_part.Other kind body) = Unit {0}
+
+abbrev pub IsUpTo : ℕ → HopPart → Type 0
+IsUpTo high (hop_part.Sft kind rds) = kind ≤ high
+IsUpTo high (hop_part.Other kind body) = Unit {0}

@@ -3,3 +3,4 @@ pub mod Usable
 pub mod Accepted
 pub mod Choices
 pub mod Selections
+pub mod Names

@@ -1,10 +1,13 @@
 //! The row of a hop.
 
 ghost use Rattle.std.specs.Prelude.{◌≡◌, [], ◌∷◌, ◌++◌, map, IfOk, OnOk};
+ghost use Rattle.route_selection.specs.Lowest.{Ascends};
+ghost use Rattle.route_selection.specs.Usable.{name_of};
 ghost use Rattle.route_selection.specs.Choices.{candidates, choice_among, row_at, seat};
 
 use crate::candidates::Candidate;
 use crate::naming::is_named;
+use crate::type_ranges::range_for;
 use path_selection::HopRow;
 use sfp_attribute::HopPart;
 use std::alloc::Global;
@@ -24,7 +27,7 @@ fn push_seat(
     Ok(())
 }
 
-/// The seats of the candidates of a hop, in order.
+/// The seats of those that a hop names, in order.
 fn seats_for(
     alloc: Global,
     usable: &[Candidate],
@@ -60,9 +63,10 @@ pub(crate) fn row_at(
     si: u8,
     inside: &[HopPart],
 ) -> Result<HopRow, OutOfMemory>
+    requires { Ascends name_of usable.now }
     ensures { IfOk result (λ row. row ≡ row_at usable.now spi si inside.now) }
 {
-    let seats = seats_for(alloc, usable, inside)?;
+    let seats = seats_for(alloc, range_for(usable, inside), inside)?;
     let number = spi.number() as usize + usize::from(si);
     Ok(HopRow {
         si,

@@ -7,6 +7,7 @@ ghost use Rattle.sfc_routes.specs.PeerRoutes.{PeerRoute};
 ghost use Rattle.sfc_routes.specs.LastWords.{Routes, Stands};
 ghost use Rattle.sfc_routes.specs.RouteLists.{IsRouteList};
 ghost use Rattle.path_selection.specs.Paths.{ServicePath};
+ghost use Rattle.route_selection.specs.Names.{AreOfRoster};
 ghost use Rattle.route_selection.specs.Selections.{IsSelection};
 
 /// A list of routes has at most one selection; `select_all` gives one.
@@ -28,4 +29,10 @@ pub fn last_words_have_one_selection()
         → IsRoster roster → IsRouteList routes → IsRouteList others → Stands routes changes → Stands others more
         → ((e : PeerRoute) → Routes changes e ↔ Routes more e)
         → IsSelection roster routes table → IsSelection roster others other → table ≡ other }
+{}
+
+/// A selection names forwarders and instances of the roster alone.
+pub fn a_selection_names_the_roster()
+    ensures { (roster : Entries) (routes : List PeerRoute) (table : List ServicePath) → IsSelection roster routes table
+        → AreOfRoster roster table }
 {}

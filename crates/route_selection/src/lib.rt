@@ -11,7 +11,7 @@
 //!
 //! - `select_all` gives the table of a list of routes (`IsSelection`). It is judged first what is usable and what is accepted; of
 //!   one NLRI the lowest peer's route then counts, and of several paths of one SPI the one with the lowest RD.
-//! - A list of routes has one selection, and so have lists of the same routes, and changes with the same last words (`laws`).
+//! - A selection names forwarders and instances of the roster alone. A list of routes has one selection, and so have lists of the same routes, and changes with the same last words (`laws`).
 //!
 //! A hop's candidates are the usable instance routes that some SFT of it names, each once. A path whose hops have no candidate
 //! is still a path. Nothing here keeps a table up to date, looks a path up or does IO.
@@ -30,9 +30,11 @@ mod naming;
 mod path_routes;
 mod selected_paths;
 mod selections;
+mod type_ranges;
 mod usable_routes;
 
 pub use laws::{
-    a_list_has_one_selection, last_words_have_one_selection, same_routes_have_one_selection,
+    a_list_has_one_selection, a_selection_names_the_roster, last_words_have_one_selection,
+    same_routes_have_one_selection,
 };
 pub use selections::select_all;

@@ -2,6 +2,8 @@
 
 ghost use Rattle.std.specs.Prelude.{◌≡◌, IfOk};
 ghost use Rattle.sfp_attribute.specs.Sfps.{SfpFits};
+ghost use Rattle.route_selection.specs.Lowest.{Ascends};
+ghost use Rattle.route_selection.specs.Usable.{name_of};
 ghost use Rattle.route_selection.specs.Selections.{path_at, path_rows};
 
 use crate::candidates::Candidate;
@@ -19,6 +21,7 @@ fn path_rows(
     spi: Spi,
     parts: &[Part],
 ) -> Result<List<HopRow>, OutOfMemory>
+    requires { Ascends name_of usable.now }
     ensures { IfOk result (λ rows. rows ≡ path_rows usable.now spi parts.now) }
 {
     let mut rows = List::new(alloc);
@@ -41,7 +44,8 @@ pub(crate) fn path_at(
     usable: &[Candidate],
     entry: &PathEntry<'_>,
 ) -> Result<Path, OutOfMemory>
-    requires { SfpFits entry.now.sfp }
+    requires in_order { Ascends name_of usable.now }
+    requires fits { SfpFits entry.now.sfp }
     ensures { IfOk result (λ path. path ≡ path_at usable.now entry.now) }
 {
     let rows = path_rows(alloc, usable, entry.spi, entry.sfp.parts.as_slice())?;

@@ -3,6 +3,8 @@
 ghost use Rattle.std.specs.Prelude.{◌≡◌, ◌<◌, List, [], ◌∷◌, ◌++◌, map, IfOk, OnOk};
 ghost use Rattle.std.specs.List.{AllByRecursion};
 ghost use Rattle.sfp_attribute.specs.Sfps.{SfpFits};
+ghost use Rattle.route_selection.specs.Lowest.{Ascends};
+ghost use Rattle.route_selection.specs.Usable.{name_of};
 ghost use Rattle.route_selection.specs.Accepted.{PathRoute, firsts};
 ghost use Rattle.route_selection.specs.Selections.{IsSelection, path_at};
 
@@ -23,6 +25,7 @@ fn put_path(
     usable: &[Candidate],
     entry: &PathEntry<'_>,
 ) -> Result<(), OutOfMemory>
+    requires in_order { Ascends name_of usable.now }
     requires fits { SfpFits entry.now.sfp }
     requires behind { AllByRecursion (λ path. path.spi < entry.now.spi) table.old }
     ensures { OnOk result (table.new ≡ table.old ++ path_at usable.now entry.now ∷ []) }
@@ -40,6 +43,7 @@ fn take_path(
     usable: &[Candidate],
     entry: &PathEntry<'_>,
 ) -> Result<u32, OutOfMemory>
+    requires in_order { Ascends name_of usable.now }
     requires fits { SfpFits entry.now.sfp }
     requires below { AllByRecursion (λ path. path.spi < least) table.old }
     ensures paths { IfOk result (λ more. (rest : List PathRoute) → table.new ++ map (path_at usable.now) (firsts more rest) ≡ table.old ++ map (path_at usable.now) (firsts least (entry.now ∷ rest))) }
@@ -59,7 +63,8 @@ fn table_of(
     usable: &[Candidate],
     accepted: &[PathEntry<'_>],
 ) -> Result<Table, OutOfMemory>
-    requires { AllByRecursion (λ p. SfpFits p.sfp) accepted.now }
+    requires in_order { Ascends name_of usable.now }
+    requires fits { AllByRecursion (λ p. SfpFits p.sfp) accepted.now }
     ensures { IfOk result (λ table. table ≡ map (path_at usable.now) (firsts 0 accepted.now)) }
 {
     let mut table = Table::empty(alloc);
