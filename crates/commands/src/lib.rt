@@ -42,11 +42,14 @@ mod words;
 mod writing;
 
 pub use gates::{Gate, OpenGate};
+pub use control_files::ControlReason;
 pub use openings::open_port;
 pub use outputs::Output;
 pub use pcap_io::CaptureReason;
+pub use pcapng_io::NgReason;
 pub use reading::{PIECE, ReadFault, read_all, read_into};
 pub use reports::report;
+pub use sfc_config::SetupReason;
 pub use statuses::{Status, status_line};
 pub use words::Words;
 pub use writing::{WriteFault, empty, fill, write_all};

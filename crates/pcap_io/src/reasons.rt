@@ -15,6 +15,9 @@ pub enum CaptureReason {
     Length,
     /// The original length of a packet is below the captured one, or above 2,147,483,647.
     Original,
+    /// A packet's fraction of a second carries its time past the seconds that a capture can tell. No capture is refused for this
+    /// when it is read, only where it is written as a pcapng file. The place is the fraction.
+    Time,
     /// The bytes end in the file header or in a packet.
     Short,
 }

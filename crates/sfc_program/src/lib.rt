@@ -32,7 +32,9 @@
 
 mod sfc_calls;
 
-pub use commands::{CaptureReason, Gate, OpenGate, Status, Words, status_line};
+pub use commands::{
+    CaptureReason, ControlReason, Gate, NgReason, OpenGate, SetupReason, Status, Words, status_line,
+};
 pub use sfc_calls::sfc_call;
 pub use show_command::show_call;
 pub use walk_command::walk_call;

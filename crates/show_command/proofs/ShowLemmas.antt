@@ -6,7 +6,7 @@ use Rattle.sfc_desk.specs.declared.ports.Port.TheVariants as ports
 use Rattle.sfc_desk.specs.Desks.{Shown, Files, Rose}
 use Rattle.sfc_desk.specs.Ports.{is_input}
 use Rattle.commands.specs.declared.statuses.Status.{Status}
-use Rattle.commands.specs.declared.statuses.Status.TheVariants.{Ok, Words, File, Capture, Memory, Long}
+use Rattle.commands.specs.declared.statuses.Status.TheVariants.{Ok, Words, File, Setup, Capture, Control, Memory, Records, Long, Pcapng}
 use Rattle.commands.specs.Commands.{Behaves, NoneRose}
 use Rattle.commands.specs.Openings.{Opened}
 use Rattle.commands.specs.Pieces.{NoneBound}
@@ -72,6 +72,10 @@ caused show tells held then now (File port) runs behaves told none some =
 caused show tells held then now Memory runs behaves told none some = absurd (some refl)
 caused show tells held then now Words runs behaves told none some = absurd runs
 caused show tells held then now (Capture place reason) runs behaves told none some = absurd runs
+caused show tells held then now (Setup number reason) runs behaves told none some = absurd runs
+caused show tells held then now (Control place reason) runs behaves told none some = absurd runs
+caused show tells held then now (Records number) runs behaves told none some = absurd runs
+caused show tells held then now (Pcapng place reason) runs behaves told none some = absurd runs
 
 pub show_laws : Laws IsShow show_ports ShowRuns ShowWants
 show_laws = record {
@@ -118,6 +122,10 @@ runs_from show tells held then mid now Memory was same none there works =
     λ told. took_front show held (input_of mid) then mid now same (there told) (works told)
 runs_from show tells held then mid now Words was same none there works = works
 runs_from show tells held then mid now (Capture place reason) was same none there works = works
+runs_from show tells held then mid now (Setup number reason) was same none there works = works
+runs_from show tells held then mid now (Control place reason) was same none there works = works
+runs_from show tells held then mid now (Records number) was same none there works = works
+runs_from show tells held then mid now (Pcapng place reason) was same none there works = works
 
 -- where the work fails with File, a count rose
 pub fails_from : (show : Show) (tells : Bool) (then now : Port → Shown) (answer : Status) (port : Port) → ShowWorks show.format tells then now answer → answer ≡ File port → (name : List ℕ) × HasPort (show_ports show) port name × Rose (then port) (now port)
@@ -131,5 +139,9 @@ fails_from show tells then now (File own) port works is =
 fails_from show tells then now Ok port works is = cc
 fails_from show tells then now Words port works is = cc
 fails_from show tells then now (Capture place reason) port works is = cc
+fails_from show tells then now (Setup number reason) port works is = cc
+fails_from show tells then now (Control place reason) port works is = cc
+fails_from show tells then now (Records number) port works is = cc
+fails_from show tells then now (Pcapng place reason) port works is = cc
 fails_from show tells then now Memory port works is = cc
 fails_from show tells then now (Long own) port works is = cc

@@ -13,7 +13,7 @@ use Rattle.pcap_io.specs.Refusals.{told as refusal}
 use Rattle.pcap_io.specs.Reads.{Reads}
 use Rattle.pcap_io.proofs.OneReading.{one_reading, reads_capture}
 use Rattle.commands.specs.declared.statuses.Status.{Status}
-use Rattle.commands.specs.declared.statuses.Status.TheVariants.{Ok, Words, File, Capture, Memory, Long}
+use Rattle.commands.specs.declared.statuses.Status.TheVariants.{Ok, Words, File, Setup, Capture, Control, Memory, Records, Long, Pcapng}
 use Rattle.commands.specs.Commands.{Behaves, NoneRose}
 use Rattle.commands.proofs.CommandLemmas.{fails_absent}
 use Rattle.walk_command.specs.WalkCommand.{Walk, IsWalk, WalkRuns, WalkWants, FileAsks, walk_ports}
@@ -94,6 +94,10 @@ asked_is_answered walk tells held then now (File port) wanted runs behaves wants
     ]
 asked_is_answered walk tells held then now Memory wanted runs behaves wants told none some = absurd (some refl)
 asked_is_answered walk tells held then now Words wanted runs behaves wants told none some = absurd runs
+asked_is_answered walk tells held then now (Setup number reason) wanted runs behaves wants told none some = absurd runs
+asked_is_answered walk tells held then now (Control place reason) wanted runs behaves wants told none some = absurd runs
+asked_is_answered walk tells held then now (Records number) wanted runs behaves wants told none some = absurd runs
+asked_is_answered walk tells held then now (Pcapng place reason) wanted runs behaves wants told none some = absurd runs
 
 -- an answer to a walk's words is no refusal of the words
 pub served : (walk : Walk) (tells : Bool) (held : Files) (then now : Port → Shown) (answer : Status) → WalkRuns walk tells held then now answer → answer ≡ Words → ⊥

@@ -109,6 +109,10 @@ runs_from walk tells held then mid now status.Memory some most was none there wo
     let all = opens_stays (walk_ports walk) tells then mid now none was.all in
     λ told. took_front walk held (input_of mid) then now some most all.1.0.once (there told) (works told)
 runs_from walk tells held then mid now status.Words some most was none there works = works
+runs_from walk tells held then mid now (status.Setup number reason) some most was none there works = works
+runs_from walk tells held then mid now (status.Control place reason) some most was none there works = works
+runs_from walk tells held then mid now (status.Records number) some most was none there works = works
+runs_from walk tells held then mid now (status.Pcapng place reason) some most was none there works = works
 
 -- where the work fails with File, a count rose
 pub fails_from : (walk : Walk) (tells : Bool) (then now : Port → Shown) (answer : Status) (port : Port) → WalkWorks walk tells then now answer → answer ≡ status.File port → (name : List ℕ) × HasPort (walk_ports walk) port name × Rose (then port) (now port)
@@ -124,3 +128,7 @@ fails_from walk tells then now status.Words port works is = cc
 fails_from walk tells then now (status.Capture place reason) port works is = cc
 fails_from walk tells then now status.Memory port works is = cc
 fails_from walk tells then now (status.Long own) port works is = cc
+fails_from walk tells then now (status.Setup number reason) port works is = cc
+fails_from walk tells then now (status.Control place reason) port works is = cc
+fails_from walk tells then now (status.Records number) port works is = cc
+fails_from walk tells then now (status.Pcapng place reason) port works is = cc

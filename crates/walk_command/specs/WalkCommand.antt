@@ -152,7 +152,7 @@ WalkRuns walk tells held then now (status.Long port) =
     (port ≡ ports.Capture) × OpensAll (walk_ports walk) tells then now × (tells ≡ true → HasLong walk held × WalkFronts walk held then now)
 WalkRuns walk tells held then now (status.File port) = tells ≡ true → WalkFronts walk held then now
 WalkRuns walk tells held then now status.Memory = tells ≡ true → WalkFronts walk held then now
-WalkRuns walk tells held then now status.Words = ⊥
+WalkRuns walk tells held then now _ = ⊥
 
 -- ---- what the files ask for
 

@@ -141,4 +141,4 @@ WalkWorks walk tells then now (status.File port) =
     (((port ≡ ports.Capture) ⊎ (port ≡ ports.Egress)) × Rose (then port) (now port))
     × (tells ≡ true → WroteFront walk.spi walk.count (input_of then) (now ports.Egress).written)
 WalkWorks walk tells then now status.Memory = tells ≡ true → WroteFront walk.spi walk.count (input_of then) (now ports.Egress).written
-WalkWorks walk tells then now status.Words = ⊥
+WalkWorks walk tells then now _ = ⊥
