@@ -18,6 +18,7 @@ use Rattle.session_machine.specs.Tables.{takes_open, TakesUpdate, TakesIn, Takes
 use Rattle.session_machine.specs.Timers.{Keeps}
 use Rattle.session_machine.specs.Readings.{Judges, refuses_in}
 use Rattle.session_machine.specs.Events.{Happening, connects, comes, closes, Machine, core_of, Uses, ComesIn, Steps}
+use Rattle.session_machine.specs.Histories.{Runs}
 
 abbrev pub Fit : List RouteChange → Type 0
 Fit changes = AllByRecursion IsRouteChange changes
@@ -100,3 +101,9 @@ pub of_step : (side : Side) (old : Machine) (event : Happening) (f : Effects) (m
 of_step side old (connects moment) f m x = given_are f _ x.effects_are (at_end side.peer old.state [] tt)
 of_step side old (comes moment piece) f m x = of_coming old.state side old moment piece f m x
 of_step side old (closes moment) f m x = given_are f _ x.effects_are (at_end side.peer old.state [] tt)
+
+pub of_run : (side : Side) (start : Machine) (events : List Happening) (given : List Effects) (end : Machine) → Runs side start events given end → AllByRecursion (λ (f : Effects). Fit f.changes) given
+of_run side start [] [] end x = tt
+of_run side start (e ∷ es) (f ∷ fs) end x = (of_step side start e f x.0 x.1, of_run side x.0 es fs end x.2)
+of_run side start [] (f ∷ fs) end x = absurd x
+of_run side start (e ∷ es) [] end x = absurd x

@@ -3,3 +3,4 @@ pub mod HistoryLemmas
 pub mod GroupLemmas
 pub mod OneRun
 pub mod FitLemmas
+pub mod SomeRun

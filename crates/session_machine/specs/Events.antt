@@ -1,5 +1,6 @@
 -- The machine of a session over events (RFC 4271, section 8, in this project's profile). It steps over whole messages.
 use Rattle.std.specs.Prelude.{◌≡◌, ℕ, ◌⊎◌, List, [], ◌++◌}
+use Rattle.wire_base.specs.Numbers.{AreBytes}
 use Rattle.bgp_messages.specs.declared.messages.Message.{Message}
 use Rattle.bgp_messages.specs.Messages.{spelling}
 use Rattle.bgp_update.specs.declared.routes.Nlri.{Nlri}
@@ -26,6 +27,12 @@ abbrev pub happening : Event → Happening
 happening (events.Connect moment) = connects moment
 happening (events.Bytes moment piece) = comes moment piece.now
 happening (events.Close moment) = closes moment
+
+-- what comes is bytes
+abbrev pub IsHappening : Happening → Type 0
+IsHappening (connects moment) = Unit {0}
+IsHappening (comes moment piece) = AreBytes piece
+IsHappening (closes moment) = Unit {0}
 
 -- a session between two events: its state, the moments of the last message and of the last bytes sent, the stream since
 -- the connection (none where the session has ended), and the peer's routes

@@ -53,7 +53,7 @@ fn sessions_with(
 }
 
 impl Sessions {
-    ghost use Rattle.std.specs.Prelude.{ℕ, ◌+◌, List as Sequence, ◌∷◌, ◌++◌, true, OnOk, OnErr};
+    ghost use Rattle.std.specs.Prelude.{ℕ, ◌+◌, List as Sequence, ◌∷◌, ◌++◌, Contains, true, OnOk, OnErr};
     ghost use Rattle.std.specs.List.{AllPairs, AllByRecursion};
     ghost use Rattle.sfc_routes.specs.PeerRoutes.{IsRouteChange};
     ghost use Rattle.session_machine.specs.Events.{happening};
@@ -70,6 +70,7 @@ impl Sessions {
         requires peers { All (λ p. IsPeer p.0 p.1) peers.now }
         requires differ { AllPairs (λ p q. p.0 ≢ q.0) peers.now }
         ensures sides { IfOk result (λ all. map (λ s. s.side) all.sessions.items ≡ sides_of local peers.now) }
+        ensures peers { IfOk result (λ all. (number : ℕ) → Contains (map (λ p. p.0) peers.now) number → HasPeer number all.sessions.items) }
         ensures history { IfOk result (λ all. StandAll all []) }
         ensures count { IfOk result (λ all. AllHold 0 all.sessions.items) }
     {
@@ -97,6 +98,7 @@ impl Sessions {
         ensures again { self.old.failed ≡ true → OnOk result ⊥ }
         ensures failed { OnErr result (self.new.failed ≡ true) }
         ensures sides { map (λ s. s.side) self.new.sessions.items ≡ map (λ s. s.side) self.old.sessions.items }
+        ensures peers { (number : ℕ) → HasPeer number self.old.sessions.items → HasPeer number self.new.sessions.items }
         ensures count { (most : ℕ) → AllHold most self.old.sessions.items
             → OnOk result (AllHold (most + size_of (happening event.entry)) self.new.sessions.items) }
     {

@@ -16,7 +16,10 @@
 //! - `Session::step` takes an event and answers what it leads to: bytes for the peer, and changes of its routes.
 //! - `Sessions::step` does so for one of several peers; each session stands for the events of its own peer (`StandAll`).
 //! - Every change that is given is one that a list of routes takes (`changes`).
-//! - Over one list of events there is one run (`a_history_has_one_run`).
+//! - `opening_of` is the OPEN that a local side sends.
+//! - Over one list of events there is one run (`a_history_has_one_run`), and over every list there is one (`every_history_has_a_run`).
+//! - Each peer of the list that `Sessions::new` was given has a session (`peers`), also after each step, and there is room for what
+//!   comes as long as the number of bytes is one of 64 bits (`room_is_counted`).
 //!
 //! Moments are numbers that the caller gives; one that lies before the last counts as no time. After want of memory a session has
 //! failed, and every step says so. It reads no clock, picks no route and does no IO.
@@ -47,5 +50,8 @@ mod timers;
 pub use crossing::types_cross_threads;
 pub use events::{Effects, Event};
 pub use groups::Sessions;
-pub use laws::a_history_has_one_run;
+pub use laws::{
+    a_history_has_one_run, every_change_is_one_of_routes, every_history_has_a_run, room_is_counted,
+};
 pub use machines::Session;
+pub use spoken::opening_of;

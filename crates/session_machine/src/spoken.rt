@@ -90,7 +90,7 @@ fn capabilities_of(alloc: Global, asn: u32) -> Result<List<Capability>, OutOfMem
 }
 
 /// The local side's OPEN (RFC 4271, section 4.2).
-fn opening_of(alloc: Global, local: &Local) -> Result<Open, OutOfMemory>
+pub fn opening_of(alloc: Global, local: &Local) -> Result<Open, OutOfMemory>
     ensures { IfOk result (λ made. made ≡ opening local.now) }
 {
     let caps = capabilities_of(alloc, local.asn)?;

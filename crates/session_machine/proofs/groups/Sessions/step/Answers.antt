@@ -6,7 +6,7 @@ use Rattle.session_machine.specs.Events.{happening}
 use Rattle.session_machine.specs.Sessions.{Stands}
 use Rattle.session_machine.specs.Peers.{IsAt}
 use Rattle.session_machine.specs.Groups.{events_of, effects_of, StandsIn}
-use Rattle.session_machine.proofs.GroupLemmas.{all_stand, same_sides}
+use Rattle.session_machine.proofs.GroupLemmas.{all_stand, same_sides, still_has}
 use Rattle.session_machine.proofs.groups.Sessions.step.Goals as goal
 
 pub returns-in-Ok-clause-history : goal.returns-in-Ok-clause-history
@@ -53,3 +53,19 @@ returns-in-Ok-clause-changes c = λ log s.
     let place : IsAt c.args.peer list at = subst (λ (l : List Session). IsAt c.args.peer l at) c.deref.ensures.value c.place_of-at.ensures in
     let stood : StandsIn log old = subst (StandsIn log) (sym c.index_mut.ensures.value) (s.each at old place.0) in
     c.in-Ok.ensures.changes (events_of old.side.peer log) (effects_of old.side.peer log) stood
+
+pub returns-in-Ok-clause-peers : goal.returns-in-Ok-clause-peers
+returns-in-Ok-clause-peers c =
+    let list = c.args.self.now.sessions.items in
+    let at = c.place_of-at.result in
+    let old = c.index_mut.result.now in
+    let place : IsAt c.args.peer list at = subst (λ (l : List Session). IsAt c.args.peer l at) c.deref.ensures.value c.place_of-at.ensures in
+    still_has list at old c.step.new.self place.0 c.index_mut.ensures.value c.in-Ok.ensures.side
+
+pub returns-in-Err-clause-peers : goal.returns-in-Err-clause-peers
+returns-in-Err-clause-peers c =
+    let list = c.args.self.now.sessions.items in
+    let at = c.place_of-at.result in
+    let old = c.index_mut.result.now in
+    let place : IsAt c.args.peer list at = subst (λ (l : List Session). IsAt c.args.peer l at) c.deref.ensures.value c.place_of-at.ensures in
+    still_has list at old c.step.new.self place.0 c.index_mut.ensures.value c.in-Err.ensures.side
