@@ -1,0 +1,9 @@
+pub mod RoundLemmas
+pub mod CountLemmas
+pub mod RiseLemmas
+pub mod BelowLemmas
+pub mod LastLemmas
+pub mod HighLemmas
+pub mod FrontRounds
+pub mod LeadLemmas
+pub mod EndLemmas

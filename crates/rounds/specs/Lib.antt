@@ -1,0 +1,5 @@
+pub mod Rounds
+pub mod Counted
+pub mod Places
+pub mod Says
+pub mod Views
