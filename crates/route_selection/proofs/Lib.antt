@@ -1,7 +1,10 @@
 pub mod LowestLemmas
+pub mod SeenLemmas
 pub mod UsableLemmas
 pub mod AcceptedLemmas
+pub mod DecisionLemmas
 pub mod PathLemmas
 pub mod OneSelection
 pub mod RangeLemmas
+pub mod FirstLemmas
 pub mod NameLemmas

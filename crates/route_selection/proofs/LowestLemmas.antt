@@ -1,15 +1,26 @@
 -- Lists in the order of their names, and what a value more makes of them.
-use Rattle.std.proofs.Common.{◌≡◌, ℕ, zero, suc, ◌<◌, ◌≤◌, true, false, List, [], ◌∷◌, ◌++◌, length, take, drop, get_or, slice_set, refl, sym, ◌∙◌, ap, ap₂, subst, inl, inr, ◌⊎◌, Contains, arith, nat_cmp, is_lt, le_refl}
+use Rattle.std.proofs.Common.{◌≡◌, ℕ, zero, suc, ◌<◌, ◌≤◌, true, false, List, [], ◌∷◌, ◌++◌, length, take, drop, get_or, slice_set, refl, sym, ◌∙◌, ap, ap₂, subst, inl, inr, ◌⊎◌, Contains, arith, nat_cmp, is_lt, le_refl, bytes_eq, true≢false}
 use Rattle.std.specs.Cmp.Lexicographic.{slice_cmp}
 use Rattle.std.specs.List.{AllByRecursion, insert}
 use Rattle.std.specs.List.Sorted.{IsPartitionedBy}
-use Rattle.std.proofs.lemmas.Bool.{cases_lt}
+use Rattle.std.proofs.lemmas.Bool.{cases_lt, cases_Bool}
+use Rattle.std.proofs.lemmas.Slice.Eq.{bytes_eq-Decides}
 use Rattle.std.proofs.lemmas.List.{take-append-drop}
 use Rattle.std.proofs.lemmas.List.Elements.{All-get_or, All-from_recursion, Contains-get_or, Contains-append_left, Contains-append_right, Contains-append_cases}
 use Rattle.sfc_routes.specs.RouteOrder.{IsBefore}
-use Rattle.sfc_routes.proofs.MemberLemmas.{at_front, behind, front_or_behind, no_member, all_member}
+use Rattle.sfc_routes.proofs.MemberLemmas.{at_front, behind, front_or_behind, no_member, all_member, all_from_members}
 use Rattle.sfc_routes.proofs.OrderLemmas.{less_from, not_before_itself, not_both, before_trans, before_since}
 use Rattle.route_selection.specs.Lowest.{Ascends, HasLower, AreLowest, Joins}
+
+-- of two names one comes before the other, or they are one
+before_or_same : (a b : List ℕ) → IsBefore a b ⊎ ((a ≡ b) ⊎ IsBefore b a)
+before_or_same a b = elim (cases_Bool (is_lt (slice_cmp nat_cmp a b))) [
+  | inl less ↦ inl (less_from (slice_cmp nat_cmp a b) less)
+  | inr later ↦ elim (cases_Bool (bytes_eq a b)) [
+    | inl same ↦ inr (inl ((bytes_eq-Decides a b).0 same))
+    | inr other ↦ inr (inr (before_since a b later (λ e. true≢false (sym ((bytes_eq-Decides a b).1 e) ∙ other))))
+  ]
+]
 
 module _ {X : Type 0} (name : X → List ℕ) (peer : X → ℕ) where
   -- ---- places
@@ -150,6 +161,64 @@ module _ {X : Type 0} (name : X → List ℕ) (peer : X → ℕ) where
     joins = record { low = get_or xs i one; there = Contains-get_or xs i one w; named = e one; lower = le one };
   }
 
+  -- ---- there is a list with one more
+
+  in_front : (one x : X) (xs : List X) → Ascends name (x ∷ xs) → IsBefore (name one) (name x) → (new : List X) × Joins name peer one (x ∷ xs) new
+  in_front one x xs r before = (
+    one ∷ x ∷ xs,
+    record {
+      in_order = ((before, all_after (name one) x xs before r.0), r);
+      was = λ y m. front_or_behind one (x ∷ xs) y m;
+      stays = λ y m. lower_itself (one ∷ x ∷ xs) y (behind one (x ∷ xs) y m);
+      joins = lower_itself (one ∷ x ∷ xs) one (at_front one (x ∷ xs));
+    },
+  )
+
+  in_place : (one x : X) (xs : List X) → Ascends name (x ∷ xs) → name one ≡ name x → (new : List X) × Joins name peer one (x ∷ xs) new
+  in_place one x xs r same = elim (cases_lt (peer one) (peer x)) [
+    | inl lt ↦ (slice_set (x ∷ xs) 0 one, set_joins (x ∷ xs) 0 one r (omega arith) (λ d. sym same) (λ d. omega (arith, lt)))
+    | inr le ↦ (x ∷ xs, same_joins (x ∷ xs) 0 one r (omega arith) (λ d. sym same) (λ d. le))
+  ]
+
+  lower_behind : (x : X) (xs : List X) (y : X) → HasLower name peer xs y → HasLower name peer (x ∷ xs) y
+  lower_behind x xs y h = record { low = h.low; there = behind x xs h.low h.there; named = h.named; lower = h.lower }
+
+  further : (one x : X) (xs new : List X) → Ascends name (x ∷ xs) → IsBefore (name x) (name one) → Joins name peer one xs new → Joins name peer one (x ∷ xs) (x ∷ new)
+  further one x xs new r before j = record {
+    in_order = (
+      all_from_members (λ (y : X). IsBefore (name x) (name y)) new (λ y m. elim (j.was y m) [
+        | inl is ↦ subst (λ (z : X). IsBefore (name x) (name z)) is before
+        | inr old ↦ all_member (λ (z : X). IsBefore (name x) (name z)) xs y r.0 old
+      ]),
+      j.in_order,
+    );
+    was = λ y m. elim (front_or_behind x new y m) [
+      | inl is ↦ inr (subst (λ (z : X). Contains (x ∷ xs) z) is (at_front x xs))
+      | inr more ↦ elim (j.was y more) [ inl is ↦ inl is | inr old ↦ inr (behind x xs y old) ]
+    ];
+    stays = λ y m. elim (front_or_behind x xs y m) [
+      | inl is ↦ lower_itself (x ∷ new) y (subst (λ (z : X). Contains (x ∷ new) z) is (at_front x new))
+      | inr old ↦ lower_behind x new y (j.stays y old)
+    ];
+    joins = lower_behind x new one j.joins;
+  }
+
+  pub joins_exist : (one : X) (xs : List X) → Ascends name xs → (new : List X) × Joins name peer one xs new
+  joins_exist one [] r = (
+    one ∷ [],
+    record {
+      in_order = (tt, tt);
+      was = λ x m. elim (front_or_behind one [] x m) [ inl is ↦ inl is | inr none ↦ absurd (no_member x none) ];
+      stays = λ x m. absurd (no_member x m);
+      joins = lower_itself (one ∷ []) one (at_front one []);
+    },
+  )
+  joins_exist one (x ∷ xs) r = elim (before_or_same (name one) (name x)) [
+    | inl before ↦ in_front one x xs r before
+    | inr (inl same) ↦ in_place one x xs r same
+    | inr (inr before) ↦ let rest = joins_exist one xs r.1 in (x ∷ rest.0, further one x xs rest.0 r before rest.1)
+  ]
+
   -- ---- the lowest of more
 
   pub joins_lowest : (Seen More : X → Type 0) (one : X) (old new : List X) → ((x : X) → Seen x → More x) → More one
@@ -188,7 +257,7 @@ module _ {X : Type 0} (name : X → List ℕ) (peer : X → ℕ) where
   not_again : (x e : X) (xs : List X) → Ascends name (x ∷ xs) → Contains xs e → name x ≡ name e → ⊥
   not_again x e xs r m same = not_before_itself (name e) (subst (λ (k : List ℕ). IsBefore k (name e)) same (all_member (λ (y : X). IsBefore (name x) (name y)) xs e r.0 m))
 
-  same_name : (xs : List X) (e f : X) → Ascends name xs → Contains xs e → Contains xs f → name e ≡ name f → e ≡ f
+  pub same_name : (xs : List X) (e f : X) → Ascends name xs → Contains xs e → Contains xs f → name e ≡ name f → e ≡ f
   same_name [] e f r m n same = absurd (no_member e m)
   same_name (x ∷ xs) e f r m n same = elim (front_or_behind x xs e m) [
     | inl is ↦ elim (front_or_behind x xs f n) [

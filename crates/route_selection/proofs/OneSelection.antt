@@ -1,11 +1,9 @@
 -- Routes have one selection.
-use Rattle.std.proofs.Common.{◌≡◌, ℕ, ◌≢◌, List, [], ◌∷◌, drop, get_or, sym, ◌∙◌, ap, ap₂, subst, inl, inr, Contains, ◌↔◌, arith, map, Some, Option}
-use Rattle.std.specs.Option.{option_map_or}
+use Rattle.std.proofs.Common.{◌≡◌, ℕ, ◌≢◌, List, [], ◌∷◌, drop, get_or, sym, ◌∙◌, ap, ap₂, subst, inl, inr, Contains, ◌↔◌, arith, map}
 use Rattle.std.specs.List.{AllPairs}
 use Rattle.std.proofs.lemmas.Bool.{cases_order}
 use Rattle.bgp_update.specs.declared.routes.Nlri.{Nlri}
 use Rattle.bgp_update.specs.declared.routes.Nlri.TheVariants as nlris
-use Rattle.sfp_attribute.specs.declared.sfps.Sfp.{Sfp}
 use Rattle.sfc_routes.specs.declared.entries.ForwarderEntry.{ForwarderEntry}
 use Rattle.sfc_routes.specs.declared.entries.InstanceEntry.{InstanceEntry}
 use Rattle.sfc_routes.specs.declared.route_changes.RouteChange.{RouteChange}
@@ -21,6 +19,7 @@ use Rattle.route_selection.specs.Lowest.{Ascends}
 use Rattle.route_selection.specs.Usable.{Offers, Offered, name_of, peer_of}
 use Rattle.route_selection.specs.Accepted.{PathRoute, Shows, Shown, path_name, path_peer, firsts}
 use Rattle.route_selection.specs.Selections.{IsSelection, path_at}
+use Rattle.route_selection.proofs.AcceptedLemmas.{some_injective}
 use Rattle.route_selection.proofs.LowestLemmas.{same_members, one_lowest}
 
 -- entries of which each two differ are at one place
@@ -58,9 +57,6 @@ one_offered roster routes r l x y s t name peer =
     let nlri : s.0.route.nlri ≡ t.0.route.nlri = s.2.named ∙ ap (λ (k : List ℕ). nlris.Sfir (drop 1 k) (get_or k 0 0)) name ∙ sym t.2.named in
     let same : t.0 ≡ s.0 = one_route routes t.0 s.0 l t.1 s.1 (sym t.2.of_peer ∙ sym peer ∙ s.2.of_peer) (sym nlri) in
     one_offer roster s.0 x y r s.2 (subst (λ (e : PeerRoute). Offers roster e y) same t.2)
-
-some_injective : (s t : Sfp) → Some s ≡ Some t → s ≡ t
-some_injective s t e = ap (λ (o : Option Sfp). option_map_or (λ (x : Sfp). x) o s) e
 
 path_name_is : (x y : PathRoute) → nlris.Sfpr x.rd x.spi ≡ nlris.Sfpr y.rd y.spi → path_name x ≡ path_name y
 path_name_is x y e = name_in (nlris.Sfpr x.rd x.spi) (nlris.Sfpr y.rd y.spi) e

@@ -66,7 +66,7 @@ head_order a b Less p m e = omega (arith, m)
 head_order a b Equal p m e = omega (arith, m)
 head_order a b Greater p m e = absurd (true≢false (ap is_gt e))
 
-head_le : (a b : ℕ) (xs ys : List ℕ) → IsBefore (a ∷ xs) (b ∷ ys) → a ≤ b
+pub head_le : (a b : ℕ) (xs ys : List ℕ) → IsBefore (a ∷ xs) (b ∷ ys) → a ≤ b
 head_le a b xs ys h = head_order a b (nat_cmp a b) (slice_cmp nat_cmp xs ys) (ranked a b (nat_cmp a b) refl) h
 
 types_rise : (xs : List Candidate) → Ascends name_of xs → (i j : ℕ) (d : Candidate) → i ≤ j → j < length xs → (get_or xs i d).kind ≤ (get_or xs j d).kind

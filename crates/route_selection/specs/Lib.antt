@@ -4,3 +4,4 @@ pub mod Accepted
 pub mod Choices
 pub mod Selections
 pub mod Names
+pub mod Taken

@@ -11,7 +11,9 @@
 //!
 //! - `select_all` gives the table of a list of routes (`IsSelection`). It is judged first what is usable and what is accepted; of
 //!   one NLRI the lowest peer's route then counts, and of several paths of one SPI the one with the lowest RD.
-//! - A selection names forwarders and instances of the roster alone. A list of routes has one selection, and so have lists of the same routes, and changes with the same last words (`laws`).
+//! - A selection names forwarders and instances of the roster alone. Each list of routes has a selection
+//!   (`every_list_has_a_selection`) and one alone, and so have lists of the same routes, and changes with the same last words
+//!   (`laws`). Its paths are those of the accepted path routes with the lowest RDs (`the_lowest_rd_is_taken`).
 //!
 //! A hop's candidates are the usable instance routes that some SFT of it names, each once. A path whose hops have no candidate
 //! is still a path. Nothing here keeps a table up to date, looks a path up or does IO.
@@ -34,7 +36,7 @@ mod type_ranges;
 mod usable_routes;
 
 pub use laws::{
-    a_list_has_one_selection, a_selection_names_the_roster, last_words_have_one_selection,
-    same_routes_have_one_selection,
+    a_list_has_one_selection, a_selection_names_the_roster, every_list_has_a_selection,
+    last_words_have_one_selection, same_routes_have_one_selection, the_lowest_rd_is_taken,
 };
 pub use selections::select_all;
