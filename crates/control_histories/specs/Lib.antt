@@ -1,0 +1,4 @@
+pub mod Happenings
+pub mod Logs
+pub mod Replies
+pub mod Versions
