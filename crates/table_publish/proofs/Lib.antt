@@ -1,0 +1,6 @@
+pub mod Marks
+pub mod Adding
+pub mod PublicationLemmas
+pub mod Moves
+pub mod LookLemmas
+pub mod CopyLemmas

@@ -1,0 +1,6 @@
+-- The copy has the hops so far.
+use Rattle.std.proofs.Common.{◌≡◌, take}
+use Rattle.table_publish.proofs.copies.copy_rows.Given as goal
+
+abbrev pub invariant-loop-row : goal.invariant-loop-row
+invariant-loop-row l = l.copy ≡ take l.row-index l.rows

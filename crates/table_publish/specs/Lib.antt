@@ -1,0 +1,9 @@
+pub mod Windows
+pub mod Publications
+pub mod Views
+pub mod Entries
+pub mod Pages
+pub mod Contents
+pub mod Rules
+pub mod Looks
+pub mod Settling
