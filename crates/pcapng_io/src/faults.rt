@@ -27,6 +27,13 @@ pub enum NgReason {
     Short,
 }
 
+/// A reason, and the place where it stands.
+#[derive(Clone, Copy, Debug, PartialEq, Eq)]
+pub struct NgRefusal {
+    pub place: u64,
+    pub reason: NgReason,
+}
+
 /// Why no frame is given.
 #[derive(Clone, Copy, Debug, PartialEq, Eq, Error)]
 pub enum NgFault {

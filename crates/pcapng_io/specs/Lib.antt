@@ -1,0 +1,14 @@
+pub mod Numbers
+pub mod Kinds
+pub mod Options
+pub mod Times
+pub mod Sections
+pub mod Refusals
+pub mod Files
+pub mod Steps
+pub mod Kept
+pub mod Calls
+pub mod Streams
+pub mod Lending
+pub mod Reads
+pub mod Written
