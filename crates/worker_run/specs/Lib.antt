@@ -1,0 +1,7 @@
+pub mod Batches
+pub mod Records
+pub mod Rounds
+pub mod Outputs
+pub mod Controls
+pub mod Runners
+pub mod Steps
