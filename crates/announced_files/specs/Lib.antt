@@ -1,0 +1,3 @@
+pub mod Announceable
+pub mod Announcements
+pub mod Announced
