@@ -1,0 +1,9 @@
+pub mod HaltLemmas
+pub mod ReadLemmas
+pub mod AheadLemmas
+pub mod AnswerLemmas
+pub mod FillLemmas
+pub mod WholeLemmas
+pub mod TakeLemmas
+pub mod FewLemmas
+pub mod LawLemmas
