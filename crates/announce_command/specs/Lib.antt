@@ -1,0 +1,2 @@
+pub mod AnnounceCommand
+pub mod AnnounceSteps
