@@ -41,8 +41,8 @@ mod statuses;
 mod words;
 mod writing;
 
-pub use gates::{Gate, OpenGate};
 pub use control_files::ControlReason;
+pub use gates::{Gate, OpenGate};
 pub use openings::open_port;
 pub use outputs::Output;
 pub use pcap_io::CaptureReason;

@@ -51,7 +51,8 @@ fn control_words(reason: ControlReason) -> &'static str {
         ControlReason::Peer => "no peer line of the setup has this number",
         ControlReason::Moment => "a moment lies before that of the segment before",
         ControlReason::Position => "a position lies before that of the segment before",
-        ControlReason::Length => "a segment has more than 65535 bytes, or bytes where it may have none",
+        ControlReason::Length =>
+            "a segment has more than 65535 bytes, or bytes where it may have none",
         ControlReason::Short => "it ends in a segment",
     }
 }
@@ -64,8 +65,10 @@ fn ng_words(reason: NgReason) -> &'static str {
         NgReason::Version => "a section is of another major version than 1",
         NgReason::Option => "an option of an interface runs past its block, or has a wrong length",
         NgReason::Resolution => "an interface counts its time in parts that are too small",
-        NgReason::Interface => "an interface that its section does not describe, or more than 1024 of them",
-        NgReason::Length => "a frame of more than 262144 bytes, or more than its block holds; editcap -s cuts frames",
+        NgReason::Interface =>
+            "an interface that its section does not describe, or more than 1024 of them",
+        NgReason::Length =>
+            "a frame of more than 262144 bytes, or more than its block holds; editcap -s cuts frames",
         NgReason::Original =>
             "a frame was shorter than what is kept of it, or longer than 2147483647 bytes",
         NgReason::Time => "a frame's time lies before 1970 or after 2106",
