@@ -7,6 +7,7 @@ use Rattle.commands.specs.declared.statuses.Status.TheVariants as status
 use Rattle.commands.specs.Commands.{Behaves}
 use Rattle.walk_command.specs.WalkCommand.{Walk, IsWalk, WalkRuns, WalkWants, WalkCall, walk_ports}
 use Rattle.show_command.specs.ShowCommand.{Show, IsShow, ShowRuns, ShowWants, ShowCall, show_ports}
+use Rattle.announce_command.specs.AnnounceCommand.{Announce, IsAnnounce, AnnounceRuns, AnnounceWants, AnnounceCall, announce_ports}
 use Rattle.sfc_program.specs.declared.sfc_calls.Row.{Row}
 use Rattle.sfc_program.specs.declared.sfc_calls.Row.TheVariants as row
 
@@ -14,21 +15,25 @@ use Rattle.sfc_program.specs.declared.sfc_calls.Row.TheVariants as row
 pub data Command : Type 0 where
   walk : Walk → Command
   show : Show → Command
+  announce : Announce → Command
 
 -- the words spell the command
 abbrev pub Spells : List (List ℕ) → Command → Type 0
 Spells words (walk said) = IsWalk words said
 Spells words (show said) = IsShow words said
+Spells words (announce said) = IsAnnounce words said
 
 -- what each answer says of what was written, and of the ports
 abbrev pub Runs : Command → Bool → Files → (Port → Shown) → (Port → Shown) → Status → Type 0
 Runs (walk said) tells held old new answer = WalkRuns said tells held old new answer × Behaves (walk_ports said) tells held old new answer
 Runs (show said) tells held old new answer = ShowRuns said tells held old new answer × Behaves (show_ports said) tells held old new answer
+Runs (announce said) tells held old new answer = AnnounceRuns said tells held old new answer × Behaves (announce_ports said) tells held old new answer
 
 -- what the files ask for
 abbrev pub Wants : Command → Files → Status → Type 0
 Wants (walk said) held answer = WalkWants said held answer
 Wants (show said) held answer = ShowWants said held answer
+Wants (announce said) held answer = AnnounceWants said held answer
 
 -- the row of the commands that the first word picks
 abbrev pub row_of : List (List ℕ) → Row
@@ -36,10 +41,12 @@ row_of [] = row.Unknown
 row_of (word ∷ words) =
     if bytes_eq word (codes "walk") then row.Walk
     else if bytes_eq word (codes "show") then row.Show
+    else if bytes_eq word (codes "announce") then row.Announce
     else row.Unknown
 
 -- what the call of a row says
 abbrev pub RowCall : Row → List (List ℕ) → Bool → Files → (Port → Shown) → (Port → Shown) → Status → Type 0
 RowCall row.Walk words tells held old new answer = WalkCall words tells held old new answer
 RowCall row.Show words tells held old new answer = ShowCall words tells held old new answer
+RowCall row.Announce words tells held old new answer = AnnounceCall words tells held old new answer
 RowCall row.Unknown words tells held old new answer = (answer ≡ status.Words) × ((port : Port) → new port ≡ old port)

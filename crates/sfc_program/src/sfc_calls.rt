@@ -4,6 +4,7 @@ ghost use Rattle.commands.specs.declared.statuses.Status.{Status as Answered};
 ghost use Rattle.commands.specs.Commands.{NoneRose};
 ghost use Rattle.sfc_program.specs.SfcCalls.{Command, Spells, Runs, Wants, RowCall, row_of as row_of_words};
 
+use announce_command::announce_call;
 use commands::{Gate, Status, Words};
 use sfc_desk::Desk;
 use show_command::show_call;
@@ -15,6 +16,7 @@ use walk_command::walk_call;
 pub(crate) enum Row {
     Walk,
     Show,
+    Announce,
     /// No command has these words.
     Unknown,
 }
@@ -32,6 +34,9 @@ fn row_of(words: &Words) -> Row
     if words.word(0) == "show" {
         return Row::Show;
     }
+    if words.word(0) == "announce" {
+        return Row::Announce;
+    }
     Row::Unknown
 }
 
@@ -42,6 +47,7 @@ fn call_row<D: Desk>(alloc: Global, row: Row, words: &Words, desk: &mut D) -> St
     match row {
         Row::Walk => walk_call(alloc, words, desk),
         Row::Show => show_call(alloc, words, desk),
+        Row::Announce => announce_call(alloc, words, desk),
         Row::Unknown => Status::Words,
     }
 }
