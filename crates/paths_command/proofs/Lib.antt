@@ -1,0 +1,5 @@
+pub mod VersionLemmas
+pub mod RunLemmas
+pub mod StreamLemmas
+pub mod PathsLemmas
+pub mod WholeLemmas

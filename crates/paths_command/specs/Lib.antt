@@ -1,0 +1,3 @@
+pub mod VersionTexts
+pub mod PathsCommand
+pub mod PathsSteps
