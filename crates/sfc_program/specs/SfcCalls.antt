@@ -8,6 +8,7 @@ use Rattle.commands.specs.Commands.{Behaves}
 use Rattle.walk_command.specs.WalkCommand.{Walk, IsWalk, WalkRuns, WalkWants, WalkCall, walk_ports}
 use Rattle.show_command.specs.ShowCommand.{Show, IsShow, ShowRuns, ShowWants, ShowCall, show_ports}
 use Rattle.announce_command.specs.AnnounceCommand.{Announce, IsAnnounce, AnnounceRuns, AnnounceWants, AnnounceCall, announce_ports}
+use Rattle.paths_command.specs.PathsCommand.{Paths, IsPaths, PathsRuns, PathsWants, PathsCall, paths_ports}
 use Rattle.sfc_program.specs.declared.sfc_calls.Row.{Row}
 use Rattle.sfc_program.specs.declared.sfc_calls.Row.TheVariants as row
 
@@ -16,24 +17,28 @@ pub data Command : Type 0 where
   walk : Walk → Command
   show : Show → Command
   announce : Announce → Command
+  paths : Paths → Command
 
 -- the words spell the command
 abbrev pub Spells : List (List ℕ) → Command → Type 0
 Spells words (walk said) = IsWalk words said
 Spells words (show said) = IsShow words said
 Spells words (announce said) = IsAnnounce words said
+Spells words (paths said) = IsPaths words said
 
 -- what each answer says of what was written, and of the ports
 abbrev pub Runs : Command → Bool → Files → (Port → Shown) → (Port → Shown) → Status → Type 0
 Runs (walk said) tells held old new answer = WalkRuns said tells held old new answer × Behaves (walk_ports said) tells held old new answer
 Runs (show said) tells held old new answer = ShowRuns said tells held old new answer × Behaves (show_ports said) tells held old new answer
 Runs (announce said) tells held old new answer = AnnounceRuns said tells held old new answer × Behaves (announce_ports said) tells held old new answer
+Runs (paths said) tells held old new answer = PathsRuns said tells held old new answer × Behaves (paths_ports said) tells held old new answer
 
 -- what the files ask for
 abbrev pub Wants : Command → Files → Status → Type 0
 Wants (walk said) held answer = WalkWants said held answer
 Wants (show said) held answer = ShowWants said held answer
 Wants (announce said) held answer = AnnounceWants said held answer
+Wants (paths said) held answer = PathsWants said held answer
 
 -- the row of the commands that the first word picks
 abbrev pub row_of : List (List ℕ) → Row
@@ -42,6 +47,7 @@ row_of (word ∷ words) =
     if bytes_eq word (codes "walk") then row.Walk
     else if bytes_eq word (codes "show") then row.Show
     else if bytes_eq word (codes "announce") then row.Announce
+    else if bytes_eq word (codes "paths") then row.Paths
     else row.Unknown
 
 -- what the call of a row says
@@ -49,4 +55,5 @@ abbrev pub RowCall : Row → List (List ℕ) → Bool → Files → (Port → Sh
 RowCall row.Walk words tells held old new answer = WalkCall words tells held old new answer
 RowCall row.Show words tells held old new answer = ShowCall words tells held old new answer
 RowCall row.Announce words tells held old new answer = AnnounceCall words tells held old new answer
+RowCall row.Paths words tells held old new answer = PathsCall words tells held old new answer
 RowCall row.Unknown words tells held old new answer = (answer ≡ status.Words) × ((port : Port) → new port ≡ old port)

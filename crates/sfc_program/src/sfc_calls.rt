@@ -6,6 +6,7 @@ ghost use Rattle.sfc_program.specs.SfcCalls.{Command, Spells, Runs, Wants, RowCa
 
 use announce_command::announce_call;
 use commands::{Gate, Status, Words};
+use paths_command::paths_call;
 use sfc_desk::Desk;
 use show_command::show_call;
 use std::alloc::Global;
@@ -17,6 +18,7 @@ pub(crate) enum Row {
     Walk,
     Show,
     Announce,
+    Paths,
     /// No command has these words.
     Unknown,
 }
@@ -37,6 +39,9 @@ fn row_of(words: &Words) -> Row
     if words.word(0) == "announce" {
         return Row::Announce;
     }
+    if words.word(0) == "paths" {
+        return Row::Paths;
+    }
     Row::Unknown
 }
 
@@ -48,6 +53,7 @@ fn call_row<D: Desk>(alloc: Global, row: Row, words: &Words, desk: &mut D) -> St
         Row::Walk => walk_call(alloc, words, desk),
         Row::Show => show_call(alloc, words, desk),
         Row::Announce => announce_call(alloc, words, desk),
+        Row::Paths => paths_call(alloc, words, desk),
         Row::Unknown => Status::Words,
     }
 }
