@@ -1,0 +1,108 @@
+#!/usr/bin/env python3
+"""A second program, written from the formats alone, that says what some commands of sfc must write.
+
+usage: python3 tools/model single SETUP CAPTURE CONTROL EGRESS LINES REPLIES
+       python3 tools/model trace SETUP CAPTURE CONTROL TRACE
+       python3 tools/model paths SETUP CONTROL
+       python3 tools/model announce SETUP PEER ROUTES MADE
+       python3 tools/model generate SEED FRAMES
+       python3 tools/model example FOLDER
+       python3 tools/model check
+
+For people, not for the gate. It shares no code with the program: where both agree, either is right or both were
+misled by the same sentence. Stored outputs of rows are taken from it, never from the program. It reads whole
+files, works on whole lists and is slow. A setup and a routes text are taken to be right, and words are not checked.
+
+`example` makes the capture and the control file of a folder with a setup and routes, as `examples/chain`. `check` tries
+the model on cases that were worked by hand. The exit status is that of the command that it speaks for, and behind a
+refused capture or control file the place and the reason stand on standard error.
+"""
+import sys
+
+sys.dont_write_bytecode = True
+
+import checks
+import controls
+import example
+import inputs
+import runs
+import setups
+
+STATUS = {"capture": 5, "control": 6}
+
+
+def read(name):
+    with open(name, "rb") as file:
+        return file.read()
+
+
+def text(name):
+    return read(name).decode("ascii")
+
+
+def write(name, data):
+    with open(name, "wb") as file:
+        file.write(data)
+
+
+def ended(fault):
+    if fault is None:
+        return 0
+    print("model:", *fault, file=sys.stderr)
+    return STATUS[fault[0]]
+
+
+def single(setup, capture, control, egress, lines, replies):
+    run = runs.Single(setups.read(text(setup)), read(capture), read(control))
+    write(egress, run.egress())
+    write(lines, run.lines())
+    write(replies, run.reply_file())
+    return ended(run.fault)
+
+
+def trace(setup, capture, control, packets):
+    run = runs.Single(setups.read(text(setup)), read(capture), read(control))
+    write(packets, run.packets())
+    return ended(run.fault)
+
+
+def paths(setup, control):
+    told, fault = runs.paths(setups.read(text(setup)), read(control))
+    print(told, end="")
+    return ended(fault)
+
+
+def announce(setup, peer, routes, made):
+    segments = inputs.announcement(setups.read(text(setup)), int(peer), setups.read_routes(text(routes)))
+    write(made, b"".join(controls.written(segment) for segment in segments))
+    return 0
+
+
+def generate(seed, frames):
+    print(inputs.summary(int(seed), int(frames)))
+    return 0
+
+
+def make_example(folder):
+    example.make(folder)
+    return 0
+
+
+COMMANDS = {
+    "single": single, "trace": trace, "paths": paths, "announce": announce, "generate": generate, "example": make_example,
+    "check": checks.check,
+}
+
+
+def main(words):
+    if words == ["--help"]:
+        print(__doc__.strip())
+        return 0
+    if not words or words[0] not in COMMANDS:
+        print(__doc__.strip(), file=sys.stderr)
+        return 2
+    return COMMANDS[words[0]](*words[1:])
+
+
+if __name__ == "__main__":
+    sys.exit(main(sys.argv[1:]))

@@ -1,0 +1,114 @@
+"""Runs on one thread: the rounds of a capture and a control file, what counts of them, and what is written."""
+import captures
+import controls
+import sessions
+import tables
+import walks
+
+ROUND = 256
+
+
+def rounds(count, segments):
+    """The rounds over so many frames: of each its segments, the first frame and the one behind its last."""
+    at = {}
+    for segment in segments:
+        at.setdefault(min(segment.position, count), []).append(segment)
+    cuts = sorted({0, count, *range(0, count, ROUND), *at})
+    for cut, behind in zip(cuts, cuts[1:] + [count]):
+        groups = at.get(cut, [])
+        groups = [groups[begin:begin + ROUND] for begin in range(0, len(groups), ROUND)]
+        with_frames = [] if cut in (0, count) else groups[-1:]
+        for group in groups[:len(groups) - len(with_frames)]:
+            yield group, cut, cut
+        if cut < count:
+            yield with_frames[0] if with_frames else [], cut, behind
+
+
+class Counted:
+    """What counts of two inputs: the fault that is answered, and the rounds that are run."""
+
+    def __init__(self, capture, control, peers):
+        self.form, self.frames, bad_capture = captures.read(capture)
+        segments, bad_control = controls.read(control, peers)
+        count, last = len(self.frames), segments[-1].position if segments else 0
+        self.fault = None
+        if bad_capture and (not bad_control or count <= last):
+            self.fault = "capture", *bad_capture
+            segments = [segment for segment in segments if segment.position < count]
+            self.rounds = list(rounds(count, segments)) if self.form else []
+        elif bad_control:
+            self.fault = "control", *bad_control
+            self.rounds = before_last(list(rounds(count, segments)), segments)
+        else:
+            self.rounds = list(rounds(count, segments))
+
+
+def before_last(all_rounds, segments):
+    """The rounds before the one that holds the last good segment."""
+    if not segments:
+        return []
+    holds = next(number for number, (group, _, _) in enumerate(all_rounds) if group and group[-1] is segments[-1])
+    return all_rounds[:holds]
+
+
+class Controller:
+    """The sessions with the peers, the versions of the table so far, and the replies."""
+
+    def __init__(self, setup):
+        self.setup, self.sessions, self.routes = setup, sessions.Sessions(setup), tables.Routes()
+        self.version, self.table, self.replies = 0, {}, []
+
+    def take(self, segment, told=lambda version, table: None):
+        reply, changes = self.sessions.step(segment)
+        if reply:
+            self.replies.append(reply)
+        for change in changes:
+            self.routes.apply(change)
+            self.version += 1
+            self.table = tables.table_of(self.setup, self.routes)
+            told(self.version, self.table)
+
+
+class Single:
+    """The single run: a record for each frame, and what goes out."""
+
+    def __init__(self, setup, capture, control):
+        counted = Counted(capture, control, setup.peers)
+        self.form, self.fault = counted.form, counted.fault
+        self.records, self.left, self.trace = [], [], []
+        controller = Controller(setup)
+        for segments, begin, end in counted.rounds:
+            for segment in segments:
+                controller.take(segment)
+            for frame in counted.frames[begin:end]:
+                record, left = walks.forward(setup, controller.table, controller.version, frame, self.trace)
+                self.records.append(record)
+                self.left.append(left)
+        self.replies, self.version = controller.replies, controller.version
+
+    def of_frames(self, frames):
+        if self.form is None:
+            return b""
+        return captures.written_head(self.form) + b"".join(captures.written(self.form, frame) for frame in frames)
+
+    def egress(self):
+        return self.of_frames([frame for record, frame in zip(self.records, self.left) if record.end in ("egress", "bypass")])
+
+    def lines(self):
+        return "".join(record.line(number) for number, record in enumerate(self.records)).encode()
+
+    def reply_file(self):
+        return b"".join(controls.written(reply) for reply in self.replies)
+
+    def packets(self):
+        return self.of_frames(self.trace)
+
+
+def paths(setup, control):
+    """Every version of the table as text, and the refusal of the control file or None."""
+    segments, fault = controls.read(control, setup.peers)
+    told = [tables.text(setup, 0, {})]
+    controller = Controller(setup)
+    for segment in segments:
+        controller.take(segment, lambda version, table: told.append(tables.text(setup, version, table)))
+    return "".join(told), fault and ("control", *fault)
