@@ -4,3 +4,4 @@ pub mod PublicationLemmas
 pub mod Moves
 pub mod LookLemmas
 pub mod CopyLemmas
+pub mod DifferenceLemmas

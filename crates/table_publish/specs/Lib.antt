@@ -7,3 +7,4 @@ pub mod Contents
 pub mod Rules
 pub mod Looks
 pub mod Settling
+pub mod Differences

@@ -17,7 +17,7 @@ fn copy_rows(alloc: Global, rows: &[HopRow]) -> Result<List<HopRow>, OutOfMemory
     Ok(copy)
 }
 
-fn copy_path(alloc: Global, path: &Path) -> Result<Path, OutOfMemory>
+pub fn copy_path(alloc: Global, path: &Path) -> Result<Path, OutOfMemory>
     ensures { IfOk result (λ copy. copy ≡ path.now) }
 {
     let rows = copy_rows(alloc, path.rows())?;

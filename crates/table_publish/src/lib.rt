@@ -17,6 +17,8 @@
 //!   that the seat saw or learned of before. It takes no memory and no lock, and waits for nobody.
 //! - `close` gives the table after all published lists. What a seat saw is a front of them.
 //! - `a_version_is_the_table_after_its_lists` says which table a version names.
+//! - `changes_between` gives a list of changes that makes one table of another, and names no path that stays as it is;
+//!   `copy_table` gives the same table once more.
 //!
 //! Two copies of the table stand behind a window, by the kit's `left_right`: seats read one while the publisher changes
 //! the other. That all seats and lists are of one window is kept in a book, which exists in proofs alone. Nothing here
@@ -34,6 +36,7 @@
 mod books;
 mod copies;
 mod crossing;
+mod differences;
 mod entries;
 mod laws;
 mod publishers;
@@ -43,7 +46,9 @@ mod stores;
 mod tolds;
 mod windows;
 
+pub use copies::copy_table;
 pub use crossing::types_cross_threads;
+pub use differences::changes_between;
 pub use entries::Window;
 pub use laws::a_version_is_the_table_after_its_lists;
 pub use publishers::Publisher;
