@@ -1,4 +1,4 @@
--- What a record names; a frame forwarded over one table, and over the last; what records put at the outputs; a round; that it says one list.
+-- What a record names; a frame forwarded over one table, and over the last; what records put at the outputs; a round; that it says one list; rounds as one run.
 pub mod NameLemmas
 pub mod RecordLemmas
 pub mod StillLemmas
@@ -9,3 +9,5 @@ pub mod ControlLemmas
 pub mod RoundLemmas
 pub mod SoundLemmas
 pub mod OneSaying
+pub mod RunLemmas
+pub mod SingleRuns

@@ -145,8 +145,9 @@ all_tables : (Looked : List ServicePath → Type 0) → IsOne Looked → (ts : L
 all_tables Looked is [] all = tt
 all_tables Looked is (t ∷ ts) all = (is.table t all.0, all_tables Looked is ts all.1)
 
-one_record : Laws → (setup : Parts) (changes : List RouteChange) (frame : Captured) (r q : Record) → IsRoster setup.roster → SingleRecord setup changes frame r → SingleRecord setup changes frame q → r ≡ q
-one_record l setup changes frame r q is x y =
+-- two records of a frame tell one walk
+pub one_walk : Laws → (setup : Parts) (changes : List RouteChange) (frame : Captured) (r q : Record) → IsRoster setup.roster → (x : SingleRecord setup changes frame r) (y : SingleRecord setup changes frame q) → x.told.walk ≡ y.told.walk
+one_walk l setup changes frame r q is x y =
     let looked = one_looked l setup.roster changes is in
     let f = taken_in frame.bytes frame.original in
     let xw = x.told.walk in
@@ -156,7 +157,14 @@ one_record l setup changes frame r q is x y =
     let v = l.verdict setup.rules f.bytes y.told.walks.verdict x.told.walks.verdict y.told.walks.begins x.told.walks.begins in
     let tables : xw.tables ≡ yw.tables = same_by (TableAfter setup.roster changes) looked setup f x.told.walks.verdict xw yw xs ys x.told.walks.walks (subst (λ (w : Verdict). WalksBy setup f w yw) v y.told.walks.walks) in
     let are : All IsTable xw.tables = All-from_recursion IsTable xw.tables (all_tables (TableAfter setup.roster changes) looked xw.tables xs) in
-    let walk : xw ≡ yw = l.walk setup f xw yw are x.told.walks y.told.walks tables in
+    l.walk setup f xw yw are x.told.walks y.told.walks tables
+
+one_record : Laws → (setup : Parts) (changes : List RouteChange) (frame : Captured) (r q : Record) → IsRoster setup.roster → SingleRecord setup changes frame r → SingleRecord setup changes frame q → r ≡ q
+one_record l setup changes frame r q is x y =
+    let xw = x.told.walk in
+    let yw = y.told.walk in
+    let walk : xw ≡ yw = one_walk l setup changes frame r q is x y in
+    let tables : xw.tables ≡ yw.tables = ap (λ (w : Walk). w.tables) walk in
     let versions : r.versions.items ≡ q.versions.items = same_versions (length changes) r.versions.items q.versions.items x.newest y.newest
     (sym (AllZip-long (λ v t. IsVersion setup.roster changes v t) r.versions.items xw.tables x.told.over) ∙ ap length tables ∙ AllZip-long (λ v t. IsVersion setup.roster changes v t) q.versions.items yw.tables y.told.over) in
     let worker : r.worker ≡ q.worker = x.worker_is ∙ sym y.worker_is in

@@ -28,13 +28,13 @@ last_version roster changes table v t after is =
       table_is = subst (λ (cs : List RouteChange). TableAfter roster cs t) (sym all) (subst (TableAfter roster changes) (sym is.1) after);
     }
 
-over_versions : (roster : Entries) (changes : List RouteChange) (table : List ServicePath) (vs : List ℕ) (ts : List (List ServicePath)) → TableAfter roster changes table → AllZip (IsOnly (length changes) table) vs ts → AllZip (λ v t. IsVersion roster changes v t) vs ts
+pub over_versions : (roster : Entries) (changes : List RouteChange) (table : List ServicePath) (vs : List ℕ) (ts : List (List ServicePath)) → TableAfter roster changes table → AllZip (IsOnly (length changes) table) vs ts → AllZip (λ v t. IsVersion roster changes v t) vs ts
 over_versions roster changes table [] [] after all = tt
 over_versions roster changes table [] (t ∷ ts) after all = absurd all
 over_versions roster changes table (v ∷ vs) [] after all = absurd all
 over_versions roster changes table (v ∷ vs) (t ∷ ts) after all = (last_version roster changes table v t after all.0, over_versions roster changes table vs ts after all.1)
 
-only_version : (version : ℕ) (table : List ServicePath) (vs : List ℕ) (ts : List (List ServicePath)) → AllZip (IsOnly version table) vs ts → AllByRecursion (λ (v : ℕ). v ≡ version) vs
+pub only_version : (version : ℕ) (table : List ServicePath) (vs : List ℕ) (ts : List (List ServicePath)) → AllZip (IsOnly version table) vs ts → AllByRecursion (λ (v : ℕ). v ≡ version) vs
 only_version version table [] ts all = tt
 only_version version table (v ∷ vs) [] all = absurd all
 only_version version table (v ∷ vs) (t ∷ ts) all = (all.0.0, only_version version table vs ts all.1)

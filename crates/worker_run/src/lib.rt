@@ -35,8 +35,13 @@ mod crossing;
 mod forwarding;
 mod laws;
 mod runners;
+mod runs;
 
 pub use batches::Batch;
 pub use crossing::types_cross_threads;
 pub use laws::a_round_says_one_list;
 pub use runners::Runner;
+pub use runs::{
+    a_run_is_what_its_rounds_say, a_single_run_is_a_run, a_single_run_is_what_its_rounds_say,
+    there_is_one_single_run,
+};
