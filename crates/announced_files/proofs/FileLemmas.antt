@@ -1,9 +1,7 @@
 -- The announced file is a control file.
-use Rattle.std.proofs.Common.{◌≡◌, ℕ, List, [], ◌∷◌, ◌++◌, map, refl, sym, ap, ◌∙◌, append_assoc, arith}
+use Rattle.std.proofs.Common.{◌≡◌, ℕ, ◌<◌, ◌^◌, List, [], ◌∷◌, ◌++◌, length, map, refl, arith}
 use Rattle.std.specs.Prelude.{Contains}
-use Rattle.std.specs.List.{flat_map, AllByRecursion}
-use Rattle.std.proofs.lemmas.List.{append-nil}
-use Rattle.std.proofs.lemmas.List.Concat.{flat_map-append}
+use Rattle.std.specs.List.{AllByRecursion}
 use Rattle.bgp_messages.specs.declared.messages.Message.{Message}
 use Rattle.bgp_messages.specs.declared.messages.Message.TheVariants as messages
 use Rattle.bgp_messages.specs.Messages.{Fits}
@@ -11,13 +9,14 @@ use Rattle.bgp_messages.proofs.HeaderLemmas.{length-spelling}
 use Rattle.bgp_session.specs.declared.local_sides.Local.{Local}
 use Rattle.bgp_session.specs.LocalSide.{IsLocal}
 use Rattle.sfc_routes.specs.declared.routes.Route.{Route}
+use Rattle.control_files.specs.declared.segments.Mark.{Mark}
 use Rattle.control_files.specs.declared.segments.Segment.{Segment}
-use Rattle.control_files.specs.Segments.{segment_bytes, segments_bytes, MayFollow, AreSegments, start}
+use Rattle.control_files.specs.Segments.{MayFollow, AreSegments, mark_of, start}
 use Rattle.session_machine.specs.Sides.{IsPeer}
 use Rattle.session_machine.specs.Spoken.{open_message}
 use Rattle.announced_files.specs.Announceable.{IsAnnounceable}
 use Rattle.announced_files.specs.Announcements.{announcing}
-use Rattle.announced_files.specs.Announced.{other_side, said, greeting, announced}
+use Rattle.announced_files.specs.Announced.{other_side, said, announced}
 use Rattle.announced_files.proofs.UpdateLemmas.{spelled}
 use Rattle.announced_files.proofs.SessionLemmas.{opening_fits, other_fits}
 
@@ -61,22 +60,7 @@ are_segments peers local peer asn routes is_local is there each =
       ),
     )
 
--- ---- the bytes
-
-over_map : {X : Type 0} (f : X → Segment) (xs : List X) → flat_map segment_bytes (map f xs) ≡ flat_map (λ (x : X). segment_bytes (f x)) xs
-over_map f [] = refl
-over_map f (x ∷ xs) = ap (λ (l : List ℕ). segment_bytes (f x) ++ l) (over_map f xs)
-
--- the greeting, and then the UPDATE of each route
-pub file_is : (local : Local) (peer asn : ℕ) (routes : List Route) (none first file : List ℕ) → none ≡ [] → first ≡ none ++ segments_bytes (greeting local peer asn)
-    → file ≡ first ++ flat_map (λ (r : Route). segment_bytes (said peer (announcing local.asn asn r))) routes → file ≡ segments_bytes (announced local peer asn routes)
-file_is local peer asn routes none first file nothing begun whole =
-    let made : Route → Segment = λ r. said peer (announcing local.asn asn r) in
-    let front : first ≡ segments_bytes (greeting local peer asn) = begun ∙ ap (λ (l : List ℕ). l ++ segments_bytes (greeting local peer asn)) nothing in
-    whole ∙ ap (λ (l : List ℕ). l ++ flat_map (λ (r : Route). segment_bytes (made r)) routes) front
-    ∙ ap (λ (l : List ℕ). segments_bytes (greeting local peer asn) ++ l) (sym (over_map made routes)) ∙ sym (flat_map-append segment_bytes (greeting local peer asn) (map made routes))
-
-pub three_joined : (f a b c x y z : List ℕ) → x ≡ f ++ a → y ≡ x ++ b → z ≡ y ++ c → z ≡ f ++ (a ++ (b ++ (c ++ [])))
-three_joined f a b c x y z ex ey ez =
-    ez ∙ ap (λ (l : List ℕ). l ++ c) (ey ∙ ap (λ (l : List ℕ). l ++ b) ex) ∙ append_assoc (f ++ a) b c ∙ append_assoc f a (b ++ c)
-    ∙ ap (λ (l : List ℕ). f ++ (a ++ (b ++ l))) (sym (append-nil c))
+-- the bytes of each segment are few
+pub short_segments : (peers : List ℕ) (mark : Mark) (segments : List Segment) → AreSegments peers mark segments → AllByRecursion (λ (s : Segment). length s.bytes < 2 ^ 32) segments
+short_segments peers mark [] are = tt
+short_segments peers mark (s ∷ ss) are = (omega (arith, are.0.most), short_segments peers (mark_of s) ss are.1)

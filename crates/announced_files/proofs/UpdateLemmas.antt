@@ -28,7 +28,7 @@ use Rattle.sfc_routes.specs.Meanings.{reach_in, reach_of, reached, unreach_in, u
 use Rattle.sfc_routes.proofs.MeaningLemmas.{HasFit}
 use Rattle.route_texts.specs.RouteTexts.{attribute_size, reach_size, targets_size, path_size}
 use Rattle.announced_files.specs.Announceable.{IsAnnounceable}
-use Rattle.announced_files.specs.Announcements.{flags_for, attribute_of, origin, ways, reach_for, communities_for, sfp_for, attributes_for, announcement}
+use Rattle.announced_files.specs.Announcements.{flags_for, attribute_of, origin, ways, reach_for, communities_for, sfp_for, attributes_for, announcement, unreach_for, withdrawal}
 use Rattle.announced_files.specs.Announced.{change_for}
 
 -- ---- one attribute
@@ -278,6 +278,32 @@ spelled own asn r a =
         size = omega (arith, whole, a.small);
       };
       message = record { parts = omega (arith, size); size = omega (arith, size, whole, a.small) };
+    }
+
+-- ---- withdrawing
+
+pub short_unreach : (r : Route) → IsAnnounceable r → length (body_bytes (unreach_for r).body) ≤ 255
+short_unreach r a = omega (arith, length-append (nlri_bytes r.nlri) [], length_nlri r.nlri r.path a.nlri a.path)
+
+size_at_most : (size : ℕ) → attribute_size size ≤ 4 + size
+size_at_most size = cond_both (ltb 255 size) 4 3 (λ n. n + size ≤ 4 + size) (λ e. omega arith) (λ e. omega arith)
+
+pub withdrawn_spelled : (r : Route) → IsAnnounceable r → IsSpelled (withdrawal r)
+withdrawn_spelled r a =
+    let body : Body = (unreach_for r).body in
+    let short : length (body_bytes body) ≤ 255 = short_unreach r a in
+    let fit : AttributeFits (unreach_for r) = attribute_fits 128 15 body refl (omega arith) (omega arith) (omega (arith, short)) (refl, (a.nlri, tt)) in
+    let few : length (attribute_bytes (unreach_for r)) ≤ 259 =
+    omega (arith, length_attribute 128 15 body refl (omega (arith, short)), size_at_most (length (body_bytes body)), short) in
+    let one : length (attributes_bytes (unreach_for r ∷ [])) ≤ 259 = omega (arith, length-append (attribute_bytes (unreach_for r)) [], few) in
+    let size : length (update_bytes (withdrawal r)) ≡ 4 + length (attributes_bytes (unreach_for r ∷ [])) = omega (arith, length-append (attributes_bytes (unreach_for r ∷ [])) []) in
+    record {
+      fits = record {
+        withdrawn = omega arith;
+        attributes = record { each = (fit, tt); one_reach = omega arith; one_unreach = omega arith };
+        size = omega (arith, one);
+      };
+      message = record { parts = omega (arith, size); size = omega (arith, size, one) };
     }
 
 -- ---- what it means

@@ -21,8 +21,12 @@ at_start kind number bytes = record { kind = kind; peer = number; moment = 0; po
 abbrev pub connected : ℕ → Segment
 connected peer = at_start 1 peer []
 
+-- a message of the peer at moment 0, behind so many frames
+abbrev pub said_at : ℕ → ℕ → Message → Segment
+said_at position peer m = record { kind = 2; peer = peer; moment = 0; position = position; bytes = spelling m }
+
 abbrev pub said : ℕ → Message → Segment
-said peer m = at_start 2 peer (spelling m)
+said peer m = said_at 0 peer m
 
 -- the session comes up: the connection, the peer's OPEN, a KEEPALIVE
 abbrev pub greeting : Local → ℕ → ℕ → List Segment

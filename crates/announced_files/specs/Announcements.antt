@@ -1,4 +1,4 @@
--- The UPDATE that announces a route of a routes text (RFC 4271, section 5; RFC 4760, section 3; RFC 4360; after RFC 9015,
+-- The UPDATEs that announce and withdraw a route of a routes text (RFC 4271, section 5; RFC 4760, section 3; RFC 4360; after RFC 9015,
 -- section 3.2). Which attributes stand there, and in which order, is this project's own.
 use Rattle.std.specs.Prelude.{ℕ, ◌+◌, ◌==◌, nat_lt, Bool, true, false, if◌then◌else◌, Option, Some, None, List, [], ◌∷◌, ◌++◌, length}
 use Rattle.wire_base.specs.Numbers.{four}
@@ -54,3 +54,16 @@ announcement own asn r = record { withdrawn = []; attributes = attributes_for (o
 -- and the message
 abbrev pub announcing : ℕ → ℕ → Route → Message
 announcing own asn r = messages.Update (update_bytes (announcement own asn r))
+
+-- ---- withdrawing
+
+-- MP_UNREACH_NLRI
+abbrev pub unreach_for : Route → Attribute
+unreach_for r = attribute_of 128 15 (bodies.Unreach (record { nlri = r.nlri ∷ [] }))
+
+-- the update by which a peer withdraws the route, and the message
+abbrev pub withdrawal : Route → Update
+withdrawal r = record { withdrawn = []; attributes = unreach_for r ∷ []; nlri = [] }
+
+abbrev pub withdrawing : Route → Message
+withdrawing r = messages.Update (update_bytes (withdrawal r))

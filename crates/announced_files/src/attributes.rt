@@ -4,10 +4,10 @@ ghost use Rattle.std.specs.Prelude.{◌≡◌, ◌≤◌, [], ◌∷◌, ◌++�
 ghost use Rattle.std.specs.List.{AllByRecursion};
 ghost use Rattle.sfp_attribute.specs.Sfps.{SfpFits};
 ghost use Rattle.bgp_update.specs.Attributes.{body_bytes};
-ghost use Rattle.announced_files.specs.Announcements.{flags_for, attribute_of, origin, ways, reach_for, communities_for, sfp_for, attributes_for, announcement};
+ghost use Rattle.announced_files.specs.Announcements.{flags_for, attribute_of, origin, ways, reach_for, communities_for, sfp_for, attributes_for, announcement, unreach_for, withdrawal};
 ghost use Rattle.announced_files.specs.Announceable.{IsAnnounceable};
 
-use bgp_update::{Attribute, Body, MpReach, Update};
+use bgp_update::{Attribute, Body, MpReach, MpUnreach, Update};
 use sfc_routes::Route;
 use sfp_attribute::{Sfp, encode_sfp};
 use std::alloc::Global;
@@ -21,6 +21,8 @@ const AS_PATH: u8 = 2;
 const LOCAL_PREF: u8 = 5;
 
 const MP_REACH_NLRI: u8 = 14;
+
+const MP_UNREACH_NLRI: u8 = 15;
 
 const EXTENDED_COMMUNITIES: u8 = 16;
 
@@ -234,6 +236,34 @@ pub(crate) fn announcement_of(
     ensures { IfOk result (λ update. update ≡ announcement own asn route.now) }
 {
     let attributes = attributes_of(alloc, own, asn, route)?;
+    Ok(Update {
+        withdrawn: Bytes::new(alloc),
+        attributes,
+        nlri: Bytes::new(alloc),
+    })
+}
+
+/// MP_UNREACH_NLRI. Its value never has more than 255 bytes.
+fn unreach_of(alloc: Global, route: &Route) -> Result<Attribute, OutOfMemory>
+    requires { IsAnnounceable route.now }
+    ensures { IfOk result (λ made. made ≡ unreach_for route.now) }
+{
+    let mut nlri = List::new(alloc);
+    nlri.push(route.nlri.copy(alloc)?)?;
+    Ok(Attribute {
+        flags: OPTIONAL,
+        kind: MP_UNREACH_NLRI,
+        body: Body::Unreach(MpUnreach { nlri }),
+    })
+}
+
+/// The update by which a peer withdraws the route (RFC 4760, section 4).
+pub(crate) fn withdrawal_of(alloc: Global, route: &Route) -> Result<Update, OutOfMemory>
+    requires { IsAnnounceable route.now }
+    ensures { IfOk result (λ update. update ≡ withdrawal route.now) }
+{
+    let mut attributes = List::new(alloc);
+    attributes.push(unreach_of(alloc, route)?)?;
     Ok(Update {
         withdrawn: Bytes::new(alloc),
         attributes,

@@ -10,11 +10,12 @@
 //!
 //! What the layer above uses:
 //!
-//! - `announce_file` writes the file of the routes of a text, which is a control file for any peers with this one.
+//! - `announce_file` writes the file of the routes of a text, which is a control file for any peers with this one; `announced_segments`
+//!   gives its segments, and `announcing_segment` and `withdrawing_segment` those of one route at any position.
 //! - The session with the peer that hears the file comes up, and then the peer's routes are exactly those of the text
 //!   (`announced_routes_are_those_of_the_text`).
 //!
-//! It does no IO, and gives no moment but 0 and no position but 0.
+//! It does no IO, and gives no moment but 0.
 //!
 //! ```text
 //! let routes = parse_routes(alloc, text)?;
@@ -25,6 +26,8 @@
 mod announcing;
 mod attributes;
 mod laws;
+mod segments;
 
 pub use announcing::announce_file;
 pub use laws::announced_routes_are_those_of_the_text;
+pub use segments::{announced_segments, announcing_segment, withdrawing_segment};
