@@ -5,7 +5,7 @@ use std::sync::atomic::{AtomicU64, Ordering};
 use std::thread;
 
 /// How often a thread looks whether another one is so far, before it gives up.
-pub(crate) const TURNS: u64 = 20_000_000;
+pub(crate) const TURNS: u64 = 2_000_000;
 
 /// How far two threads are: how many lookups and how many publications were made.
 #[derive(Drop)]
