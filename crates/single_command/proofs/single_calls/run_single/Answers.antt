@@ -1,0 +1,54 @@
+-- There is no setup, or a port behind it was not bound, or the run was done.
+use Rattle.std.proofs.Common.{◌≡◌, ◌≢◌, inl, inr, true, Some, [], ◌∷◌, refl, sym, ◌∙◌, subst}
+use Rattle.sfc_desk.specs.declared.ports.Port.TheVariants as ports
+use Rattle.sfc_desk.specs.Desks.{Files}
+use Rattle.commands.specs.Openings.{StopsAt}
+use Rattle.commands.proofs.PlaceLemmas.{behaves_so}
+use Rattle.single_command.specs.SingleCommand.{HasCapture, run_ports}
+use Rattle.single_command.specs.SingleSteps.{HoldsInputs, files_of}
+use Rattle.single_command.proofs.SingleLemmas.{HeldAre, fails_from, later_ports, outside_run, run_row, works_from}
+use Rattle.single_command.proofs.single_calls.run_single.Goals as goal
+
+pub returns-in-Err-clause-behaves : goal.returns-in-Err-clause-behaves
+returns-in-Err-clause-behaves g c = let files = files_of c.args.said.now in c.in-Err.ensures.behaves (later_ports files) (run_row files)
+
+pub returns-in-Err-open_files-clause-runs : goal.returns-in-Err-open_files-clause-runs
+returns-in-Err-open_files-clause-runs g c =
+    let files = files_of c.args.said.now in
+    let stops = c.in-Err-open_files.ensures.stops (g.D.Desk.at c.args.desk.now) c.in-Ok.ensures.opened in
+    let there = subst (λ (held : Files). c.in-Err-open_files.port ≢ ports.Capture → g.D.Desk.tells ≡ true → HasCapture files held) c.read_setup.ensures.files c.in-Err-open_files.ensures.there in
+    inr (c.in-Ok.setup, c.in-Ok.ensures.setup, (c.in-Err-open_files.ensures.run, there, λ told. inl (stops.nothing told)))
+
+pub returns-in-Err-open_files-clause-behaves : goal.returns-in-Err-open_files-clause-behaves
+returns-in-Err-open_files-clause-behaves g c =
+    let files = files_of c.args.said.now in
+    let then = g.D.Desk.at c.args.desk.now in
+    let stops = c.in-Err-open_files.ensures.stops then c.in-Ok.ensures.opened in
+    (subst (λ (held : Files). StopsAt (run_ports files) g.D.Desk.tells held then (g.D.Desk.at c.open_files.new.desk) c.in-Err-open_files.port) c.read_setup.ensures.files stops).behaves
+
+pub returns-clause-runs : goal.returns-clause-runs
+returns-clause-runs g c =
+    let files = files_of c.args.said.now in
+    let then = g.D.Desk.at c.args.desk.now in
+    let mid = g.D.Desk.at c.open_files.new.desk in
+    let says = c.single_stream.ensures in
+    inr (
+      c.in-Ok.setup,
+      c.in-Ok.ensures.setup,
+      works_from c.segments_have_one_log.ensures c.a_round_says_one_list.ensures files c.in-Ok.setup g.D.Desk.tells (g.D.Desk.held c.args.desk.now) then mid (g.D.Desk.at c.single_stream.new.desk) c.single_stream.result
+          (c.in_default.ensures.opens then c.in-Ok.ensures.opened) says.none_bound
+          (λ told. let holds = subst (λ (held : Files). HoldsInputs files held mid) c.read_setup.ensures.files (c.in_default.ensures.holds told) in record { capture = holds.capture; control = holds.control })
+          says.works,
+    )
+
+pub returns-clause-behaves : goal.returns-clause-behaves
+returns-clause-behaves g c =
+    let files = files_of c.args.said.now in
+    let then = g.D.Desk.at c.args.desk.now in
+    let mid = g.D.Desk.at c.open_files.new.desk in
+    let now = g.D.Desk.at c.single_stream.new.desk in
+    let says = c.single_stream.ensures in
+    behaves_so (run_ports files) [] g.D.Desk.tells (g.D.Desk.held c.args.desk.now) then mid now c.single_stream.result (run_row files) (c.in_default.ensures.opens then c.in-Ok.ensures.opened) says.none_bound
+    (λ port outside. says.others port (outside_run files port outside))
+    (λ port is. fails_from files c.in-Ok.setup g.D.Desk.tells mid now c.single_stream.result port says.works is)
+    says.counts

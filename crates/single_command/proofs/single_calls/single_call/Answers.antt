@@ -1,0 +1,18 @@
+use Rattle.commands.proofs.CommandLemmas.{answered}
+use Rattle.single_command.specs.SingleCommand.{IsSingleWords, SingleRuns, SingleWants, run_ports}
+use Rattle.single_command.specs.SingleSteps.{files_of}
+use Rattle.single_command.proofs.SingleLemmas.{asked_is_answered, one_files, served}
+use Rattle.single_command.proofs.single_calls.single_call.Goals as goal
+
+-- the words are those of the command
+pub returns-in-Some : goal.returns-in-Some
+returns-in-Some g c =
+    let files = files_of c.in-Some.said in
+    let held = g.D.Desk.held c.args.desk.now in
+    let then = g.D.Desk.at c.args.desk.now in
+    let now = g.D.Desk.at c.run_single.new.desk in
+    answered IsSingleWords run_ports SingleRuns SingleWants c.args.words.now files g.D.Desk.tells held then now c.run_single.result
+    (λ other. one_files c.args.words.now files other c.in-Some.ensures)
+    (served files g.D.Desk.tells held then now c.run_single.result c.run_single.ensures.runs)
+    (λ wanted. asked_is_answered files g.D.Desk.tells held then now c.run_single.result wanted c.run_single.ensures.runs c.run_single.ensures.behaves)
+    c.in-Some.ensures c.run_single.ensures.runs c.run_single.ensures.behaves

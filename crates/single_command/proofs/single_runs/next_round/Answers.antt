@@ -1,0 +1,23 @@
+-- A round was taken and run, or the run ends or halts.
+use Rattle.std.proofs.Common.{ℕ, sym, subst}
+use Rattle.single_command.specs.SingleSteps.{Over, Taken}
+use Rattle.single_command.proofs.RoundLemmas.{some_so}
+use Rattle.single_command.proofs.single_runs.next_round.Goals as goal
+
+pub run_taken-requires : goal.run_taken-requires
+run_taken-requires g c =
+    let setup = c.requires.0 in
+    let then = c.requires.1 in (
+      setup,
+      then,
+      subst (λ (n : ℕ). Taken setup g.D.Desk.tells then (g.D.Desk.at c.take_next.new.desk) c.take_next.new.run n) (sym c.place-place.ensures) (c.in-Ok-None.ensures.taken setup then c.requires.2 c.in-Ok-None.field-0-is),
+    )
+
+pub returns-in-Err-run_taken-clause-halts : goal.returns-in-Err-run_taken-clause-halts
+returns-in-Err-run_taken-clause-halts g c = λ setup then along.
+    c.in-Err-run_taken.ensures.halts setup then
+    (subst (λ (n : ℕ). Taken setup g.D.Desk.tells then (g.D.Desk.at c.take_next.new.desk) c.take_next.new.run n) (sym c.place-place.ensures) (c.in-Ok-None.ensures.taken setup then along c.in-Ok-None.field-0-is))
+
+pub returns-in-Ok-Some-clause-over : goal.returns-in-Ok-Some-clause-over
+returns-in-Ok-Some-clause-over g c = λ setup then along.
+    some_so c.in-Ok-Some.field-0 c.in-Ok-Some.end (Over setup g.D.Desk.tells then (g.D.Desk.at c.take_next.new.desk) c.take_next.new.run) c.in-Ok-Some.field-0-is (c.in-Ok-Some.ensures.over setup then along)

@@ -1,0 +1,14 @@
+-- The run goes on from where it began, and each round takes a frame or a segment.
+use Rattle.std.proofs.Common.{◌≡◌, ◌+◌, ◌-◌, ◌^◌}
+use Rattle.sfc_desk.specs.Desks.{Shown}
+use Rattle.sfc_desk.specs.declared.ports.Port.{Port}
+use Rattle.sfc_config.specs.Parts.{Parts}
+use Rattle.round_inputs.specs.Taking.{taken_by}
+use Rattle.single_command.specs.SingleSteps.{Along}
+use Rattle.single_command.proofs.single_runs.run_rounds.Given as goal
+
+abbrev pub invariant-rounds : goal.invariant-rounds
+invariant-rounds g l = (setup : Parts) (then : Port → Shown) → Along setup g.D.Desk.tells then (g.D.Desk.at l.initial.desk) l.initial.run → Along setup g.D.Desk.tells then (g.D.Desk.at l.desk) l.run
+
+abbrev pub decreases-rounds : goal.decreases-rounds
+decreases-rounds g l = 2 ^ 41 + 1 - taken_by l.run.inputs

@@ -1,0 +1,156 @@
+//! The run on one thread, round by round.
+
+ghost use Rattle.std.specs.Prelude.{◌≡◌, ◌+◌, ◌<◌, ◌≤◌, ◌^◌, ℕ, true, List as Sequence, Option, None, IfOk, IfErr, OnOk, IfSome};
+ghost use Rattle.sfc_desk.specs.declared.ports.Port.{Port as DeskPort};
+ghost use Rattle.sfc_desk.specs.Desks.{Shown};
+ghost use Rattle.control_files.specs.declared.segments.Segment.{Segment as Given};
+ghost use Rattle.session_machine.specs.Groups.{Entry};
+ghost use Rattle.session_machine.specs.Peers.{AllHold};
+ghost use Rattle.sfc_config.specs.Parts.{Parts};
+ghost use Rattle.control_histories.specs.Logs.{AreOfPeers};
+ghost use Rattle.round_inputs.specs.Halts.{Counts};
+ghost use Rattle.round_inputs.specs.Taking.{taken_by};
+ghost use Rattle.worker_run.specs.Batches.{AreWithinLimits};
+ghost use Rattle.worker_run.specs.Controls.{AreShort, HasRoomFor, bytes_in};
+ghost use Rattle.worker_run.specs.Runners.{IsSound, Stands};
+ghost use Rattle.single_command.specs.SingleSteps.{Along, AreOpen, HaltSays, IsOutput, NeverLong, Over, RoundPuts, Taken, WritesOutputs};
+
+use crate::round_frames::RoundFrames;
+use crate::run_outputs::RunOutputs;
+use control_files::Segment;
+use pcap_io::Form;
+use round_inputs::{Halt, RoundInputs, take_round};
+use rounds::RunEnd;
+use sfc_desk::Desk;
+use wire_base::List;
+use worker_run::Runner;
+
+/// A run between two rounds: the form of the capture, both inputs, the runner, the frames and the segments of a round, and the outputs.
+#[derive(Debug, Drop)]
+pub(crate) struct SingleRun {
+    pub(crate) form: Option<Form>,
+    pub(crate) inputs: RoundInputs,
+    pub(crate) runner: Runner,
+    pub(crate) frames: RoundFrames,
+    pub(crate) group: List<Segment>,
+    pub(crate) outputs: RunOutputs,
+}
+
+/// Runs a round on one thread, and puts what it comes to.
+fn run_round<D: Desk>(
+    desk: &mut D,
+    runner: &mut Runner,
+    frames: &mut RoundFrames,
+    group: &List<Segment>,
+    outputs: &mut RunOutputs,
+    form: Option<Form>,
+    place: u64,
+) -> Result<(), Halt>
+    requires sound { IsSound runner.old }
+    requires some { (history : Sequence Given) × (log : Sequence Entry) × Stands runner.old history log }
+    requires limits { AreWithinLimits frames.old.batch }
+    requires peers { AreOfPeers runner.old.setup.peers group.now }
+    requires short { AreShort group.now }
+    requires room { HasRoomFor runner.old.control group.now }
+    requires ready { AreOpen (D.at desk.old) outputs.old }
+    ensures round { (history : Sequence Given) (log : Sequence Entry) → Stands runner.old history log
+        → RoundPuts D.tells (D.at desk.old) (D.at desk.new) outputs.old outputs.new runner.new form place history log group.now frames.old.batch frames.new.batch result }
+    ensures setup { runner.new.setup ≡ runner.old.setup }
+    ensures hold { (most : ℕ) → AllHold most runner.old.control.sessions.sessions.items
+        → OnOk result (AllHold (most + bytes_in group.now) runner.new.control.sessions.sessions.items) }
+    ensures ready { OnOk result (AreOpen (D.at desk.new) outputs.new) }
+    ensures counts { Counts IsOutput (D.at desk.old) (D.at desk.new) result }
+    ensures never_long { NeverLong result }
+    ensures writes { WritesOutputs D.tells (D.held desk.old) (D.held desk.new) (D.at desk.old) (D.at desk.new) }
+{
+    let replies = match runner.single_round(&mut frames.batch, group) {
+        Ok(replies) => replies,
+        Err(_) => return Err(Halt::OutOfMemory),
+    };
+    let setup = runner.setup();
+    outputs.put_round(
+        desk,
+        form,
+        &setup.roster,
+        place,
+        &frames.batch,
+        replies.as_slice(),
+    )
+}
+
+/// Takes the next round off the inputs, or tells how the run ends.
+fn take_next<D: Desk>(desk: &mut D, run: &mut SingleRun) -> Result<Option<RunEnd>, Halt>
+    requires { (setup : Parts) × (then : DeskPort → Shown) × Along setup D.tells then (D.at desk.old) run.old }
+    ensures taken { (setup : Parts) (then : DeskPort → Shown) → Along setup D.tells then (D.at desk.old) run.old
+        → IfOk result (λ end. end ≡ None → Taken setup D.tells then (D.at desk.new) run.new run.old.inputs.place) }
+    ensures over { (setup : Parts) (then : DeskPort → Shown) → Along setup D.tells then (D.at desk.old) run.old
+        → IfOk result (λ end. IfSome end (Over setup D.tells then (D.at desk.new) run.new)) }
+    ensures halts { (setup : Parts) (then : DeskPort → Shown) → Along setup D.tells then (D.at desk.old) run.old
+        → IfErr result (HaltSays setup D.tells then (D.at desk.new)) }
+    ensures rises { IfOk result (λ end. end ≡ None → taken_by run.old.inputs < taken_by run.new.inputs) }
+    ensures most { IfOk result (λ end. end ≡ None → taken_by run.new.inputs ≤ 2 ^ 41) }
+{
+    run.frames.batch.clear();
+    run.group.clear();
+    take_round(desk, &mut run.inputs, &mut run.frames, &mut run.group)
+}
+
+/// Runs the round that was taken, whose first frame has this number.
+fn run_taken<D: Desk>(desk: &mut D, run: &mut SingleRun, place: u64) -> Result<(), Halt>
+    requires { (setup : Parts) × (then : DeskPort → Shown) × Taken setup D.tells then (D.at desk.old) run.old place }
+    ensures along { (setup : Parts) (then : DeskPort → Shown) → Taken setup D.tells then (D.at desk.old) run.old place
+        → OnOk result (Along setup D.tells then (D.at desk.new) run.new) }
+    ensures halts { (setup : Parts) (then : DeskPort → Shown) → Taken setup D.tells then (D.at desk.old) run.old place
+        → IfErr result (HaltSays setup D.tells then (D.at desk.new)) }
+    ensures inputs { run.new.inputs ≡ run.old.inputs }
+{
+    run_round(
+        desk,
+        &mut run.runner,
+        &mut run.frames,
+        &run.group,
+        &mut run.outputs,
+        run.form,
+        place,
+    )
+}
+
+/// Takes and runs the next round, or tells how the run ends.
+fn next_round<D: Desk>(desk: &mut D, run: &mut SingleRun) -> Result<Option<RunEnd>, Halt>
+    requires { (setup : Parts) × (then : DeskPort → Shown) × Along setup D.tells then (D.at desk.old) run.old }
+    ensures along { (setup : Parts) (then : DeskPort → Shown) → Along setup D.tells then (D.at desk.old) run.old
+        → IfOk result (λ end. end ≡ None → Along setup D.tells then (D.at desk.new) run.new) }
+    ensures over { (setup : Parts) (then : DeskPort → Shown) → Along setup D.tells then (D.at desk.old) run.old
+        → IfOk result (λ end. IfSome end (Over setup D.tells then (D.at desk.new) run.new)) }
+    ensures halts { (setup : Parts) (then : DeskPort → Shown) → Along setup D.tells then (D.at desk.old) run.old
+        → IfErr result (HaltSays setup D.tells then (D.at desk.new)) }
+    ensures rises { IfOk result (λ end. end ≡ None → taken_by run.old.inputs < taken_by run.new.inputs) }
+    ensures most { IfOk result (λ end. end ≡ None → taken_by run.new.inputs ≤ 2 ^ 41) }
+{
+    let place = run.inputs.place();
+    match take_next(desk, run) {
+        Ok(None) => match run_taken(desk, run, place) {
+            Ok(()) => Ok(None),
+            Err(halt) => Err(halt),
+        },
+        Ok(Some(end)) => Ok(Some(end)),
+        Err(halt) => Err(halt),
+    }
+}
+
+/// Runs all rounds, and tells how the run ends.
+pub(crate) fn run_rounds<D: Desk>(desk: &mut D, run: &mut SingleRun) -> Result<RunEnd, Halt>
+    requires { (setup : Parts) × (then : DeskPort → Shown) × Along setup D.tells then (D.at desk.old) run.old }
+    ensures over { (setup : Parts) (then : DeskPort → Shown) → Along setup D.tells then (D.at desk.old) run.old
+        → IfOk result (Over setup D.tells then (D.at desk.new) run.new) }
+    ensures halts { (setup : Parts) (then : DeskPort → Shown) → Along setup D.tells then (D.at desk.old) run.old
+        → IfErr result (HaltSays setup D.tells then (D.at desk.new)) }
+{
+    'rounds: loop {
+        match next_round(desk, run) {
+            Ok(None) => {}
+            Ok(Some(end)) => return Ok(end),
+            Err(halt) => return Err(halt),
+        }
+    }
+}
