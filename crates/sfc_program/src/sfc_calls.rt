@@ -9,6 +9,7 @@ use commands::{Gate, Status, Words};
 use paths_command::paths_call;
 use sfc_desk::Desk;
 use show_command::show_call;
+use single_command::single_call;
 use std::alloc::Global;
 use walk_command::walk_call;
 
@@ -19,6 +20,7 @@ pub(crate) enum Row {
     Show,
     Announce,
     Paths,
+    Single,
     /// No command has these words.
     Unknown,
 }
@@ -42,6 +44,9 @@ fn row_of(words: &Words) -> Row
     if words.word(0) == "paths" {
         return Row::Paths;
     }
+    if words.word(0) == "single" {
+        return Row::Single;
+    }
     Row::Unknown
 }
 
@@ -54,6 +59,7 @@ fn call_row<D: Desk>(alloc: Global, row: Row, words: &Words, desk: &mut D) -> St
         Row::Show => show_call(alloc, words, desk),
         Row::Announce => announce_call(alloc, words, desk),
         Row::Paths => paths_call(alloc, words, desk),
+        Row::Single => single_call(alloc, words, desk),
         Row::Unknown => Status::Words,
     }
 }
