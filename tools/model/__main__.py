@@ -7,14 +7,15 @@ usage: python3 tools/model single SETUP CAPTURE CONTROL EGRESS LINES REPLIES
        python3 tools/model announce SETUP PEER ROUTES MADE
        python3 tools/model generate SEED FRAMES
        python3 tools/model example FOLDER
+       python3 tools/model rows ROWS PRINTED
        python3 tools/model check
 
 For people, not for the gate. It shares no code with the program: where both agree, either is right or both were
 misled by the same sentence. Stored outputs of rows are taken from it, never from the program. It reads whole
 files, works on whole lists and is slow. A setup and a routes text are taken to be right, and words are not checked.
 
-`example` makes the capture and the control file of a folder with a setup and routes, as `examples/chain`. `check` tries
-the model on cases that were worked by hand. The exit status is that of the command that it speaks for, and behind a
+`example` makes the capture and the control file of a folder with a setup and routes, as `examples/chain`. `rows` writes rows of
+`single` for crates/command_rows, and what they must print. `check` tries the model on cases that were worked by hand. The exit status is that of the command that it speaks for, and behind a
 refused capture or control file the place and the reason stand on standard error.
 """
 import sys
@@ -25,6 +26,7 @@ import checks
 import controls
 import example
 import inputs
+import rows
 import runs
 import setups
 
@@ -88,9 +90,16 @@ def make_example(folder):
     return 0
 
 
+def make_rows(name, printed):
+    made = rows.all_rows()
+    write(name, "".join(line + "\n" for line in made.rows).encode())
+    write(printed, "".join(line + "\n" for line in made.printed).encode())
+    return 0
+
+
 COMMANDS = {
     "single": single, "trace": trace, "paths": paths, "announce": announce, "generate": generate, "example": make_example,
-    "check": checks.check,
+    "rows": make_rows, "check": checks.check,
 }
 
 

@@ -8,6 +8,7 @@ import inputs
 import setups
 
 FORM = captures.FORMS[bytes.fromhex("d4c3b2a1")]
+FOLDER = os.path.join(os.path.dirname(os.path.realpath(__file__)), "..", "..", "examples", "chain")
 NOON = 1700000000
 TCP, UDP, ICMP = 6, 17, 1
 SYN = 2
@@ -87,12 +88,14 @@ def changes(setup, routes):
     return b"".join(controls.written(segment) for segment in segments)
 
 
+def text(name, folder=FOLDER):
+    with open(os.path.join(folder, name)) as file:
+        return file.read()
+
+
 def make(folder):
     """Writes both files beside the setup and the routes of a folder."""
-    with open(os.path.join(folder, "setup.txt")) as file:
-        setup = setups.read(file.read())
-    with open(os.path.join(folder, "routes.txt")) as file:
-        routes = setups.read_routes(file.read())
+    setup, routes = setups.read(text("setup.txt", folder)), setups.read_routes(text("routes.txt", folder))
     for name, data in (("frames.pcap", capture()), ("changes.control", changes(setup, routes))):
         with open(os.path.join(folder, name), "wb") as file:
             file.write(data)
