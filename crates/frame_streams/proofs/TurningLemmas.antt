@@ -7,78 +7,103 @@ use Rattle.commands.specs.declared.statuses.Status.{Status}
 use Rattle.commands.specs.declared.statuses.Status.TheVariants as status
 use Rattle.commands.specs.Fronts.{IsFront}
 use Rattle.commands.specs.Pieces.{NoneBound, SameCounts}
-use Rattle.commands.proofs.FrontLemmas.{front_of_same}
 use Rattle.commands.proofs.PlaceLemmas.{rose_from}
 use Rattle.frame_streams.specs.Streams.{IsAtEnd}
-use Rattle.frame_streams.specs.Turning.{OutputRelation, Stops, IsStop, NextSays, EndSays, IsEnd, StandsAt, FrontOfAll, Breaks, FailsOn, ReadStops, WriteStops, Counts, IsEither, Told, Ends, wrote_all, wrote_front, wrote_none, is_told, Works, Converts}
+use Rattle.frame_streams.specs.Turning.{OutputRelation, IsFrontFor, Stops, IsStop, NextSays, EndSays, IsEnd, StandsAt, FrontOfAll, Breaks, FailsOn, ReadStops, WriteStops, Counts, IsEither, Told, Ends, wrote_all, wrote_front, wrote_none, is_told, Works, Converts}
 
 -- what a converter has turned
 abbrev pub Turning : Type 1
 Turning = List ℕ → List ℕ → Type 0
 
--- what it made is a front of what is written for the whole
-abbrev pub Fronts : Turning → OutputRelation → Type 0
-Fronts T W = (taken left out all : List ℕ) (answer : Status) → T taken out → W (taken ++ left) answer all → IsFront out all
-
--- an input has one output
-abbrev pub Once : OutputRelation → Type 0
-Once W = (input out other : List ℕ) (a b : Status) → W input a out → W input b other → (a ≡ b) × (out ≡ other)
+is_told_no : (b : Bool) → b ≡ true → b ≡ false → ⊥
+is_told_no b holds denied = cc
 
 -- ---- a piece was read
 
-pub read_on : (T T' : Turning) (tells : Bool) (whole left left' written waits piece : List ℕ) → (tells ≡ true → left ≡ piece ++ left') → ((taken out : List ℕ) → T taken out → T' (taken ++ piece) out) → StandsAt T tells whole left written waits → StandsAt T' tells whole left' written waits
-read_on T T' tells whole left left' written waits piece split step s = record {
-  taken = s.taken ++ piece;
-  put = s.put;
-  turned = step s.taken (s.put ++ waits) s.turned;
-  joined = λ told. append_assoc s.taken piece left' ∙ (ap (λ l. s.taken ++ l) (sym (split told)) ∙ s.joined told);
-  put_is = s.put_is;
-}
+-- what is a front whatever comes behind some bytes, is one whatever comes behind these and a piece
+front_more : (W : OutputRelation) (taken piece out : List ℕ) → IsFrontFor W taken out → IsFrontFor W (taken ++ piece) out
+front_more W taken piece out front = λ left answer all writes. front (piece ++ left) answer all (subst (λ l. W l answer all) (append_assoc taken piece left) writes)
+
+pub read_on : {S : Type 0} (W : S → OutputRelation) (words said said' : S) (T T' : Turning) (count count' : ℕ) (tells : Bool) (whole left left' written waits piece : List ℕ) → said' ≡ said → count' ≡ count + length piece → (tells ≡ true → left ≡ piece ++ left') → ((taken out : List ℕ) → T taken out → T' (taken ++ piece) out)
+    → StandsAt W words said T count tells whole left written waits → StandsAt W words said' T' count' tells whole left' written waits
+read_on {S} W words said said' T T' count count' tells whole left left' written waits piece same counts split step s =
+    let size = s.size in
+    let more = length-append s.taken piece in
+    record {
+      same = same ∙ s.same;
+      taken = s.taken ++ piece;
+      put = s.put;
+      turned = step s.taken (s.put ++ waits) s.turned;
+      front = front_more (W words) s.taken piece (s.put ++ waits) s.front;
+      size = omega (arith, size, more, counts);
+      joined = λ told. append_assoc s.taken piece left' ∙ (ap (λ l. s.taken ++ l) (sym (split told)) ∙ s.joined told);
+      put_is = s.put_is;
+    }
 
 -- nothing more was there
-pub read_none : (T : Turning) (tells : Bool) (whole left left' written waits : List ℕ) → (tells ≡ true → left ≡ left') → StandsAt T tells whole left written waits → StandsAt T tells whole left' written waits
-read_none T tells whole left left' written waits same s = record {
+pub read_none : {S : Type 0} (W : S → OutputRelation) (words said : S) (T : Turning) (count : ℕ) (tells : Bool) (whole left left' written waits : List ℕ) → (tells ≡ true → left ≡ left') → StandsAt W words said T count tells whole left written waits → StandsAt W words said T count tells whole left' written waits
+read_none {S} W words said T count tells whole left left' written waits same s = record {
+  same = s.same;
   taken = s.taken;
   put = s.put;
   turned = s.turned;
+  front = s.front;
+  size = s.size;
   joined = λ told. ap (λ l. s.taken ++ l) (sym (same told)) ∙ s.joined told;
   put_is = s.put_is;
 }
 
-pub long_whole : (T : Turning) (tells : Bool) (whole left written waits : List ℕ) (count : ℕ) → tells ≡ true → ((taken out : List ℕ) → T taken out → count ≡ length taken) → StandsAt T tells whole left written waits → 2 ^ 40 < count → 2 ^ 40 < length whole
-long_whole T tells whole left written waits count told counted s past =
-    let size = counted s.taken (s.put ++ waits) s.turned in
+pub long_whole : {S : Type 0} (W : S → OutputRelation) (words said : S) (T : Turning) (count more : ℕ) (tells : Bool) (whole left left' written waits piece : List ℕ) → tells ≡ true → left ≡ piece ++ left' → more ≡ count + length piece → StandsAt W words said T count tells whole left written waits → 2 ^ 40 < more → 2 ^ 40 < length whole
+long_whole {S} W words said T count more tells whole left left' written waits piece told split counts s past =
+    let size = s.size in
+    let behind : length left ≡ length piece + length left' = ap length split ∙ length-append piece left' in
     let all : length whole ≡ length s.taken + length left = ap length (sym (s.joined told)) ∙ length-append s.taken left in
-    omega (arith, size, all, past)
+    omega (arith, size, all, past, behind, counts)
 
 -- ---- a part was put
 
-pub put_on : (T T' : Turning) (Quiet : Type 0) (W : OutputRelation) (tells : Bool) (whole left written waits waits' : List ℕ) (more : Bool) → ((taken put : List ℕ) → T taken (put ++ waits) → NextSays (T' taken) Quiet W taken (put ++ waits') (Ok more)) → StandsAt T tells whole left written waits → StandsAt T' tells whole left written waits'
-put_on T T' Quiet W tells whole left written waits waits' more step s = record {
-  taken = s.taken;
-  put = s.put;
-  turned = (step s.taken s.put s.turned).0;
-  joined = s.joined;
-  put_is = s.put_is;
-}
+pub put_on : {S : Type 0} (W : S → OutputRelation) (words said said' : S) (T T' : Turning) (Quiet : Type 0) (count count' : ℕ) (tells : Bool) (whole left written waits waits' : List ℕ) (more : Bool) → said' ≡ said → count' ≡ count → ((taken put : List ℕ) → T taken (put ++ waits) → NextSays (T' taken) Quiet (W said) taken (put ++ waits') (Ok more))
+    → StandsAt W words said T count tells whole left written waits → StandsAt W words said' T' count' tells whole left written waits'
+put_on {S} W words said said' T T' Quiet count count' tells whole left written waits waits' more same counts step s =
+    let next = step s.taken s.put s.turned in
+    record {
+      same = same ∙ s.same;
+      taken = s.taken;
+      put = s.put;
+      turned = next.0;
+      front = subst (λ (w : S). IsFrontFor (W w) s.taken (s.put ++ waits')) s.same next.1;
+      size = counts ∙ s.size;
+      joined = s.joined;
+      put_is = s.put_is;
+    }
 
-pub put_rests : (T T' : Turning) (Quiet : Type 0) (W : OutputRelation) (tells : Bool) (whole left written waits waits' : List ℕ) (more : Bool) → more ≡ false → ((taken put : List ℕ) → T taken (put ++ waits) → NextSays (T' taken) Quiet W taken (put ++ waits') (Ok more)) → StandsAt T tells whole left written waits → Quiet
-put_rests T T' Quiet W tells whole left written waits waits' more none step s = (step s.taken s.put s.turned).1 none
+pub put_rests : {S : Type 0} (W : S → OutputRelation) (words said : S) (T T' : Turning) (Quiet : Type 0) (count : ℕ) (tells : Bool) (whole left written waits waits' : List ℕ) (more : Bool) → more ≡ false → ((taken put : List ℕ) → T taken (put ++ waits) → NextSays (T' taken) Quiet (W said) taken (put ++ waits') (Ok more))
+    → StandsAt W words said T count tells whole left written waits → Quiet
+put_rests {S} W words said T T' Quiet count tells whole left written waits waits' more none step s = (step s.taken s.put s.turned).2 none
 
 -- ---- what waits was written, or not
 
-pub write_on : (T : Turning) (tells : Bool) (whole left written waits written' waits' : List ℕ) (wanted : Bool) → (tells ≡ true → written' ++ waits' ≡ written ++ waits) → (wanted ≡ true → waits' ≡ []) → (wanted ≡ false → waits' ≡ waits) → StandsAt T tells whole left written waits → StandsAt T tells whole left written' waits'
-write_on T tells whole left written waits written' waits' true ok nothing kept s = record {
-  taken = s.taken;
-  put = s.put ++ waits;
-  turned = subst (λ l. T s.taken ((s.put ++ waits) ++ l)) (sym (nothing refl)) (subst (λ l. T s.taken l) (sym (append-nil (s.put ++ waits))) s.turned);
-  joined = s.joined;
-  put_is = λ told. ap (λ l. l ++ waits) (s.put_is told) ∙ (sym (ok told) ∙ (ap (λ l. written' ++ l) (nothing refl) ∙ append-nil written'));
-}
-write_on T tells whole left written waits written' waits' false ok nothing kept s = record {
+pub write_on : {S : Type 0} (W : S → OutputRelation) (words said : S) (T : Turning) (count : ℕ) (tells : Bool) (whole left written waits written' waits' : List ℕ) (wanted : Bool) → (tells ≡ true → written' ++ waits' ≡ written ++ waits) → (wanted ≡ true → waits' ≡ []) → (wanted ≡ false → waits' ≡ waits)
+    → StandsAt W words said T count tells whole left written waits → StandsAt W words said T count tells whole left written' waits'
+write_on {S} W words said T count tells whole left written waits written' waits' true ok nothing kept s =
+    let same : s.put ++ waits ≡ (s.put ++ waits) ++ waits' = sym (append-nil (s.put ++ waits)) ∙ ap (λ l. (s.put ++ waits) ++ l) (sym (nothing refl)) in
+    record {
+      same = s.same;
+      taken = s.taken;
+      put = s.put ++ waits;
+      turned = subst (λ l. T s.taken l) same s.turned;
+      front = subst (λ l. IsFrontFor (W words) s.taken l) same s.front;
+      size = s.size;
+      joined = s.joined;
+      put_is = λ told. ap (λ l. l ++ waits) (s.put_is told) ∙ (sym (ok told) ∙ (ap (λ l. written' ++ l) (nothing refl) ∙ append-nil written'));
+    }
+write_on {S} W words said T count tells whole left written waits written' waits' false ok nothing kept s = record {
+  same = s.same;
   taken = s.taken;
   put = s.put;
   turned = subst (λ l. T s.taken (s.put ++ l)) (sym (kept refl)) s.turned;
+  front = subst (λ l. IsFrontFor (W words) s.taken (s.put ++ l)) (sym (kept refl)) s.front;
+  size = s.size;
   joined = s.joined;
   put_is = λ told. s.put_is told ∙ append_cancel_right written written' waits (sym (ok told) ∙ ap (λ l. written' ++ l) (kept refl));
 }
@@ -88,42 +113,46 @@ write_on T tells whole left written waits written' waits' false ok nothing kept 
 front_then : (xs ys zs : List ℕ) → IsFront xs ys → IsFront ys zs → IsFront xs zs
 front_then xs ys zs one two = (one.0 ++ two.0, sym (append_assoc xs one.0 two.0) ∙ (ap (λ l. l ++ two.0) one.1 ∙ two.1))
 
-pub front_at : (T : Turning) (W : OutputRelation) (tells : Bool) (whole left written waits part : List ℕ) → tells ≡ true → Fronts T W → StandsAt T tells whole left written waits → IsFront part (written ++ waits) → FrontOfAll W whole part
-front_at T W tells whole left written waits part told fronts s front = λ answer all writes.
-    let made = fronts s.taken left (s.put ++ waits) all answer s.turned (subst (λ l. W l answer all) (sym (s.joined told)) writes) in
-    front_then part (s.put ++ waits) all (front_of_same part (written ++ waits) (s.put ++ waits) (ap (λ l. l ++ waits) (sym (s.put_is told))) front) made
+front_of_put : (put written waits all : List ℕ) → put ≡ written → IsFront (put ++ waits) all → IsFront (written ++ waits) all
+front_of_put put written waits all is front = (front.0, ap (λ l. (l ++ waits) ++ front.0) (sym is) ∙ front.1)
+
+-- of all that is written for the whole
+pub front_all : {S : Type 0} (W : S → OutputRelation) (words said : S) (T : Turning) (count : ℕ) (tells : Bool) (whole left written waits : List ℕ) → tells ≡ true → StandsAt W words said T count tells whole left written waits → FrontOfAll (W words) whole (written ++ waits)
+front_all {S} W words said T count tells whole left written waits told s = λ answer all writes.
+    front_of_put s.put written waits all (s.put_is told) (s.front left answer all (subst (λ l. W words l answer all) (sym (s.joined told)) writes))
+
+pub front_at : {S : Type 0} (W : S → OutputRelation) (words said : S) (T : Turning) (count : ℕ) (tells : Bool) (whole left written waits part : List ℕ) → tells ≡ true → StandsAt W words said T count tells whole left written waits → IsFront part (written ++ waits) → FrontOfAll (W words) whole part
+front_at {S} W words said T count tells whole left written waits part told s front = λ answer all writes.
+    front_then part (written ++ waits) all front (front_all W words said T count tells whole left written waits told s answer all writes)
 
 -- what was written is a front of what was written and waits
 pub before_waits : (written waits : List ℕ) → IsFront written (written ++ waits)
 before_waits written waits = (waits, refl)
 
--- or of what is written for an input of one output
-pub front_of_one : (W : OutputRelation) (whole out part : List ℕ) (answer : Status) → Once W → W whole answer out → IsFront part out → FrontOfAll W whole part
-front_of_one W whole out part answer once writes front = λ other all writes'.
-    front_of_same part out all (once whole out all answer other writes writes').1 front
-
 -- ---- a step that is not done
 
-stop_breaks : (T : Turning) (W : OutputRelation) (tells : Bool) (whole left written waits waits' : List ℕ) (answer : Status) → tells ≡ true → (s : StandsAt T tells whole left written waits) → Stops W s.taken (s.put ++ waits') answer → W whole answer (written ++ waits') × (IsAtEnd answer → ⊥)
-stop_breaks T W tells whole left written waits waits' answer told s stops = (
-  subst (λ l. W l answer (written ++ waits')) (s.joined told) (subst (λ l. W (s.taken ++ left) answer (l ++ waits')) (s.put_is told) (stops.written left)),
-  stops.on_the_way,
-)
+stop_breaks : {S : Type 0} (W : S → OutputRelation) (words said : S) (T : Turning) (count : ℕ) (tells : Bool) (whole left written waits waits' : List ℕ) (answer : Status) → tells ≡ true → (s : StandsAt W words said T count tells whole left written waits) → Stops (W said) s.taken (s.put ++ waits') answer → W words whole answer (written ++ waits') × FrontOfAll (W words) whole (written ++ waits') × (IsAtEnd answer → ⊥)
+stop_breaks {S} W words said T count tells whole left written waits waits' answer told s stops =
+    let at : Stops (W words) s.taken (s.put ++ waits') answer = subst (λ (w : S). Stops (W w) s.taken (s.put ++ waits') answer) s.same stops in (
+      subst (λ l. W words l answer (written ++ waits')) (s.joined told) (subst (λ l. W words (s.taken ++ left) answer (l ++ waits')) (s.put_is told) (at.written left)),
+      λ other all writes. front_of_put s.put written waits' all (s.put_is told) (at.front left other all (subst (λ l. W words l other all) (sym (s.joined told)) writes)),
+      at.on_the_way,
+    )
 
-pub next_breaks : (T T' : Turning) (Quiet : Type 0) (W : OutputRelation) (tells : Bool) (whole left written waits waits' : List ℕ) (answer : Status) → tells ≡ true → Fronts T W → ((taken put : List ℕ) → T taken (put ++ waits) → NextSays (T' taken) Quiet W taken (put ++ waits') (Err answer)) → StandsAt T tells whole left written waits → Breaks W whole (written ++ waits') written answer
-next_breaks T T' Quiet W tells whole left written waits waits' (status.Capture place reason) told fronts step s =
-    stop_breaks T W tells whole left written waits waits' (status.Capture place reason) told s (step s.taken s.put s.turned)
-next_breaks T T' Quiet W tells whole left written waits waits' (status.Pcapng place reason) told fronts step s =
-    stop_breaks T W tells whole left written waits waits' (status.Pcapng place reason) told s (step s.taken s.put s.turned)
-next_breaks T T' Quiet W tells whole left written waits waits' status.Memory told fronts step s =
-    front_at T W tells whole left written waits written told fronts s (before_waits written waits)
-next_breaks T T' Quiet W tells whole left written waits waits' status.Ok told fronts step s = absurd (step s.taken s.put s.turned)
-next_breaks T T' Quiet W tells whole left written waits waits' status.Words told fronts step s = absurd (step s.taken s.put s.turned)
-next_breaks T T' Quiet W tells whole left written waits waits' (status.File port) told fronts step s = absurd (step s.taken s.put s.turned)
-next_breaks T T' Quiet W tells whole left written waits waits' (status.Long port) told fronts step s = absurd (step s.taken s.put s.turned)
-next_breaks T T' Quiet W tells whole left written waits waits' (status.Setup number reason) told fronts step s = absurd (step s.taken s.put s.turned)
-next_breaks T T' Quiet W tells whole left written waits waits' (status.Control place reason) told fronts step s = absurd (step s.taken s.put s.turned)
-next_breaks T T' Quiet W tells whole left written waits waits' (status.Records number) told fronts step s = absurd (step s.taken s.put s.turned)
+pub next_breaks : {S : Type 0} (W : S → OutputRelation) (words said : S) (T T' : Turning) (Quiet : Type 0) (count : ℕ) (tells : Bool) (whole left written waits waits' : List ℕ) (answer : Status) → tells ≡ true → ((taken put : List ℕ) → T taken (put ++ waits) → NextSays (T' taken) Quiet (W said) taken (put ++ waits') (Err answer)) → StandsAt W words said T count tells whole left written waits → Breaks (W words) whole (written ++ waits') written answer
+next_breaks {S} W words said T T' Quiet count tells whole left written waits waits' (status.Capture place reason) told step s =
+    stop_breaks W words said T count tells whole left written waits waits' (status.Capture place reason) told s (step s.taken s.put s.turned)
+next_breaks {S} W words said T T' Quiet count tells whole left written waits waits' (status.Pcapng place reason) told step s =
+    stop_breaks W words said T count tells whole left written waits waits' (status.Pcapng place reason) told s (step s.taken s.put s.turned)
+next_breaks {S} W words said T T' Quiet count tells whole left written waits waits' status.Memory told step s =
+    front_at W words said T count tells whole left written waits written told s (before_waits written waits)
+next_breaks {S} W words said T T' Quiet count tells whole left written waits waits' status.Ok told step s = absurd (step s.taken s.put s.turned)
+next_breaks {S} W words said T T' Quiet count tells whole left written waits waits' status.Words told step s = absurd (step s.taken s.put s.turned)
+next_breaks {S} W words said T T' Quiet count tells whole left written waits waits' (status.File port) told step s = absurd (step s.taken s.put s.turned)
+next_breaks {S} W words said T T' Quiet count tells whole left written waits waits' (status.Long port) told step s = absurd (step s.taken s.put s.turned)
+next_breaks {S} W words said T T' Quiet count tells whole left written waits waits' (status.Setup number reason) told step s = absurd (step s.taken s.put s.turned)
+next_breaks {S} W words said T T' Quiet count tells whole left written waits waits' (status.Control place reason) told step s = absurd (step s.taken s.put s.turned)
+next_breaks {S} W words said T T' Quiet count tells whole left written waits waits' (status.Records number) told step s = absurd (step s.taken s.put s.turned)
 
 pub write_breaks : (W : OutputRelation) (whole out part : List ℕ) (output : Port) (then now : Port → Shown) (answer : Status) → FrontOfAll W whole part → WriteStops output then now answer → Breaks W whole out part answer
 write_breaks W whole out part output then now (status.File port) front stops = front
@@ -234,8 +263,8 @@ end_counts IsOwn IsLong then now (status.Records number) end same = absurd end
 -- ---- the end of the input
 
 pub breaks_told : (W : OutputRelation) (whole left out written : List ℕ) (answer : Status) → Breaks W whole out written answer → Told W whole left out written answer
-breaks_told W whole left out written (status.Capture place reason) breaks = (breaks.0, λ end. absurd (breaks.1 end))
-breaks_told W whole left out written (status.Pcapng place reason) breaks = (breaks.0, λ end. absurd (breaks.1 end))
+breaks_told W whole left out written (status.Capture place reason) breaks = (breaks.0, λ end. absurd (breaks.2 end))
+breaks_told W whole left out written (status.Pcapng place reason) breaks = (breaks.0, λ end. absurd (breaks.2 end))
 breaks_told W whole left out written (status.Long port) breaks = breaks
 breaks_told W whole left out written (status.File port) breaks = breaks
 breaks_told W whole left out written status.Memory breaks = breaks
@@ -245,38 +274,52 @@ breaks_told W whole left out written (status.Setup number reason) breaks = absur
 breaks_told W whole left out written (status.Control place reason) breaks = absurd breaks
 breaks_told W whole left out written (status.Records number) breaks = absurd breaks
 
+-- by the words of the command
+pub end_said : {S : Type 0} (W : S → OutputRelation) (words said : S) (whole out : List ℕ) (answer : Status) → said ≡ words → EndSays (W said) whole out answer → EndSays (W words) whole out answer
+end_said {S} W words said whole out answer same says = subst (λ (w : S). EndSays (W w) whole out answer) same says
+
+-- and then what was made is a front of all
+pub breaks_front : (W : OutputRelation) (whole out written : List ℕ) (answer : Status) → is_told answer ≡ true → Breaks W whole out written answer → FrontOfAll W whole out
+breaks_front W whole out written (status.Capture place reason) told breaks = breaks.1
+breaks_front W whole out written (status.Pcapng place reason) told breaks = breaks.1
+breaks_front W whole out written (status.Long port) told breaks = absurd (is_told_no false told refl)
+breaks_front W whole out written (status.File port) told breaks = absurd (is_told_no false told refl)
+breaks_front W whole out written status.Memory told breaks = absurd (is_told_no false told refl)
+breaks_front W whole out written status.Ok told breaks = absurd breaks
+breaks_front W whole out written status.Words told breaks = absurd breaks
+breaks_front W whole out written (status.Setup number reason) told breaks = absurd breaks
+breaks_front W whole out written (status.Control place reason) told breaks = absurd breaks
+breaks_front W whole out written (status.Records number) told breaks = absurd breaks
+
 -- all of the input was taken, and what was put and waits was made of it
 pub record TakenWhole (T : Turning) (whole out : List ℕ) : Type 0 where
   pub turned : T whole out
   pub within : length whole ≤ 2 ^ 40
 
-pub taken_whole : (T : Turning) (tells : Bool) (whole left written waits : List ℕ) (count : ℕ) → tells ≡ true → left ≡ [] → count ≤ 2 ^ 40 → ((taken out : List ℕ) → T taken out → count ≡ length taken) → StandsAt T tells whole left written waits → TakenWhole T whole (written ++ waits)
-taken_whole T tells whole left written waits count told none few counted s =
+pub taken_whole : {S : Type 0} (W : S → OutputRelation) (words said : S) (T : Turning) (count : ℕ) (tells : Bool) (whole left written waits : List ℕ) → tells ≡ true → left ≡ [] → count ≤ 2 ^ 40 → StandsAt W words said T count tells whole left written waits → TakenWhole T whole (written ++ waits)
+taken_whole {S} W words said T count tells whole left written waits told none few s =
     let all : s.taken ≡ whole = sym (append-nil s.taken) ∙ (ap (λ l. s.taken ++ l) (sym none) ∙ s.joined told) in
-    let size = counted s.taken (s.put ++ waits) s.turned in
+    let size = s.size in
     let len : length s.taken ≡ length whole = ap length all in
     record {
       turned = subst (λ l. T l (written ++ waits)) all (subst (λ l. T s.taken (l ++ waits)) (s.put_is told) s.turned);
       within = omega (arith, size, len, few);
     }
 
-pub end_told : (T : Turning) (W : OutputRelation) (whole left written waits : List ℕ) (answer : Status) → left ≡ [] → Fronts T W → TakenWhole T whole (written ++ waits) → EndSays W whole (written ++ waits) answer → Told W whole left (written ++ waits) written answer
-end_told T W whole left written waits status.Ok none fronts all says = (says, all.within, none)
-end_told T W whole left written waits (status.Capture place reason) none fronts all says = (says, λ end. all.within)
-end_told T W whole left written waits (status.Pcapng place reason) none fronts all says = (says, λ end. all.within)
-end_told T W whole left written waits status.Memory none fronts all says = λ answer made writes.
-    front_then written (written ++ waits) made (before_waits written waits) (fronts whole [] (written ++ waits) made answer all.turned (subst (λ l. W l answer made) (sym (append-nil whole)) writes))
-end_told T W whole left written waits (status.File port) none fronts all says = absurd says
-end_told T W whole left written waits status.Words none fronts all says = absurd says
-end_told T W whole left written waits (status.Long port) none fronts all says = absurd says
-end_told T W whole left written waits (status.Setup number reason) none fronts all says = absurd says
-end_told T W whole left written waits (status.Control place reason) none fronts all says = absurd says
-end_told T W whole left written waits (status.Records number) none fronts all says = absurd says
+pub end_told : (T : Turning) (W : OutputRelation) (whole left written waits : List ℕ) (answer : Status) → left ≡ [] → FrontOfAll W whole (written ++ waits) → TakenWhole T whole (written ++ waits) → EndSays W whole (written ++ waits) answer → Told W whole left (written ++ waits) written answer
+end_told T W whole left written waits status.Ok none front all says = (says, all.within, none)
+end_told T W whole left written waits (status.Capture place reason) none front all says = (says, λ end. all.within)
+end_told T W whole left written waits (status.Pcapng place reason) none front all says = (says, λ end. all.within)
+end_told T W whole left written waits status.Memory none front all says = λ answer made writes.
+    front_then written (written ++ waits) made (before_waits written waits) (front answer made writes)
+end_told T W whole left written waits (status.File port) none front all says = absurd says
+end_told T W whole left written waits status.Words none front all says = absurd says
+end_told T W whole left written waits (status.Long port) none front all says = absurd says
+end_told T W whole left written waits (status.Setup number reason) none front all says = absurd says
+end_told T W whole left written waits (status.Control place reason) none front all says = absurd says
+end_told T W whole left written waits (status.Records number) none front all says = absurd says
 
 -- ---- what waits is written, and then it is answered
-
-is_told_no : (b : Bool) → b ≡ true → b ≡ false → ⊥
-is_told_no b holds denied = cc
 
 -- all was written
 told_all : (W : OutputRelation) (whole left out written : List ℕ) (answer : Status) → is_told answer ≡ true → Told W whole left out written answer → Told W whole left out out answer
@@ -292,17 +335,8 @@ told_all W whole left out written (status.Control place reason) holds told = abs
 told_all W whole left out written (status.Records number) holds told = absurd told
 
 -- or a front of it
-told_front : (W : OutputRelation) (whole left out written part : List ℕ) (answer : Status) → Once W → is_told answer ≡ true → Told W whole left out written answer → IsFront part out → FrontOfAll W whole part
-told_front W whole left out written part status.Ok once holds told front = front_of_one W whole out part status.Ok once told.0 front
-told_front W whole left out written part (status.Capture place reason) once holds told front = front_of_one W whole out part (status.Capture place reason) once told.0 front
-told_front W whole left out written part (status.Pcapng place reason) once holds told front = front_of_one W whole out part (status.Pcapng place reason) once told.0 front
-told_front W whole left out written part (status.Long port) once holds told front = absurd (is_told_no false holds refl)
-told_front W whole left out written part (status.File port) once holds told front = absurd (is_told_no false holds refl)
-told_front W whole left out written part status.Memory once holds told front = absurd (is_told_no false holds refl)
-told_front W whole left out written part status.Words once holds told front = absurd told
-told_front W whole left out written part (status.Setup number reason) once holds told front = absurd told
-told_front W whole left out written part (status.Control place reason) once holds told front = absurd told
-told_front W whole left out written part (status.Records number) once holds told front = absurd told
+told_front : (W : OutputRelation) (whole out part : List ℕ) → FrontOfAll W whole out → IsFront part out → FrontOfAll W whole part
+told_front W whole out part all front = λ answer made writes. front_then part out made front (all answer made writes)
 
 -- or it was not to be written
 told_left : (W : OutputRelation) (whole left out written other : List ℕ) (answer : Status) → is_told answer ≡ false → Told W whole left out written answer → Told W whole left other written answer
@@ -317,17 +351,17 @@ told_left W whole left out written other (status.Setup number reason) denied tol
 told_left W whole left out written other (status.Control place reason) denied told = absurd told
 told_left W whole left out written other (status.Records number) denied told = absurd told
 
-pub works_of : (W : OutputRelation) (input output : Port) (tells : Bool) (then mid now : Port → Shown) (waits : List ℕ) (answer result : Status) → tells ≡ true → input ≢ output → Once W → Elsewhere output mid now → Told W (then input).left (mid input).left ((mid output).written ++ waits) (mid output).written answer → Ends output tells mid now waits answer result → Works W input output then now result
-works_of W input output tells then mid now waits answer result told differs once elsewhere says (wrote_all holds is written same) =
+pub works_of : (W : OutputRelation) (input output : Port) (tells : Bool) (then mid now : Port → Shown) (waits : List ℕ) (answer result : Status) → tells ≡ true → input ≢ output → (is_told answer ≡ true → FrontOfAll W (then input).left ((mid output).written ++ waits)) → Elsewhere output mid now → Told W (then input).left (mid input).left ((mid output).written ++ waits) (mid output).written answer → Ends output tells mid now waits answer result → Works W input output then now result
+works_of W input output tells then mid now waits answer result told differs front_too elsewhere says (wrote_all holds is written same) =
     let left : (mid input).left ≡ (now input).left = ap (λ (s : Shown). s.left) (sym (elsewhere input differs)) in
     let out : (mid output).written ++ waits ≡ (now output).written = sym (written told) in
     subst (λ (s : Status). Works W input output then now s) (sym is)
     (subst (λ l. Told W (then input).left l (now output).written (now output).written answer) left
     (subst (λ l. Told W (then input).left (mid input).left l l answer) out (told_all W (then input).left (mid input).left ((mid output).written ++ waits) (mid output).written answer holds says)))
-works_of W input output tells then mid now waits answer result told differs once elsewhere says (wrote_front holds is front fails) =
+works_of W input output tells then mid now waits answer result told differs front_too elsewhere says (wrote_front holds is front fails) =
     subst (λ (s : Status). Works W input output then now s) (sym is)
-    (told_front W (then input).left (mid input).left ((mid output).written ++ waits) (mid output).written (now output).written answer once holds says (front told))
-works_of W input output tells then mid now waits answer result told differs once elsewhere says (wrote_none denied is same) =
+    (told_front W (then input).left ((mid output).written ++ waits) (now output).written (front_too holds) (front told))
+works_of W input output tells then mid now waits answer result told differs front_too elsewhere says (wrote_none denied is same) =
     subst (λ (s : Status). Works W input output then now s) (sym is)
     (subst (λ (f : Port → Shown). Told W (then input).left (f input).left (f output).written (f output).written answer) (sym same)
     (told_left W (then input).left (mid input).left ((mid output).written ++ waits) (mid output).written (mid output).written answer denied says))
@@ -378,11 +412,14 @@ none_done W input output tells then none empty = record {
 }
 
 -- before the first piece
-pub fresh_stands : (T : Turning) (tells : Bool) (left written waits : List ℕ) → T [] [] → waits ≡ [] → (tells ≡ true → written ≡ []) → StandsAt T tells left left written waits
-fresh_stands T tells left written waits fresh none empty = record {
+pub fresh_stands : {S : Type 0} (W : S → OutputRelation) (words : S) (T : Turning) (count : ℕ) (tells : Bool) (left written waits : List ℕ) → T [] [] → count ≡ 0 → waits ≡ [] → (tells ≡ true → written ≡ []) → StandsAt W words words T count tells left left written waits
+fresh_stands {S} W words T count tells left written waits fresh zero_count none empty = record {
+  same = refl;
   taken = [];
   put = [];
   turned = subst (λ l. T [] l) (sym none) fresh;
+  front = λ rest answer all writes. (all, ap (λ l. l ++ all) none);
+  size = zero_count;
   joined = λ holds. refl;
   put_is = λ holds. sym (empty holds);
 }
@@ -390,3 +427,11 @@ fresh_stands T tells left written waits fresh none empty = record {
 -- no port was bound in both parts
 pub none_bound_then : (tells : Bool) (then mid now : Port → Shown) → NoneBound tells then mid → NoneBound tells mid now → NoneBound tells then now
 none_bound_then tells then mid now one two = record { binds = λ port. two.binds port ∙ one.binds port; names = λ holds port. two.names holds port ∙ one.names holds port }
+
+-- where it ends with Ok, all that was made was written
+pub ended_ok : (T : List ℕ → Type 0) (output : Port) (tells : Bool) (mid now : Port → Shown) (waits : List ℕ) (answer result : Status) → tells ≡ true → result ≡ status.Ok → (answer ≡ status.Ok → T ((mid output).written ++ waits)) → Ends output tells mid now waits answer result → T (now output).written
+ended_ok T output tells mid now waits answer result told ok turned (wrote_all holds is written same) = subst T (sym (written told)) (turned (sym is ∙ ok))
+ended_ok T output tells mid now waits answer result told ok turned (wrote_front holds is front fails) =
+    let other : status.File output ≡ status.Ok = sym is ∙ ok in cc
+ended_ok T output tells mid now waits answer result told ok turned (wrote_none denied is same) =
+    absurd (is_told_no (is_told answer) (ap is_told (sym is ∙ ok)) denied)

@@ -14,14 +14,19 @@ OutputRelation = List ℕ → Status → List ℕ → Type 0
 
 -- ---- one call of a converter
 
+-- what was made of these bytes is a front of all that is written, whatever comes behind them
+abbrev pub IsFrontFor : OutputRelation → List ℕ → List ℕ → Type 0
+IsFrontFor Writes taken out = (left : List ℕ) (answer : Status) (all : List ℕ) → Writes (taken ++ left) answer all → IsFront out all
+
 -- a refusal: whatever comes behind, so is answered, and this is written; it is none of the input's end
 pub record Stops (Writes : OutputRelation) (taken out : List ℕ) (answer : Status) : Type 0 where
   pub written : (left : List ℕ) → Writes (taken ++ left) answer out
+  pub front : IsFrontFor Writes taken out
   pub on_the_way : IsAtEnd answer → ⊥
 
 -- what the next part came to; after want of memory nothing is said
 abbrev pub NextSays : (List ℕ → Type 0) → Type 0 → OutputRelation → List ℕ → List ℕ → Result Bool Status → Type 0
-NextSays Turned Quiet Writes taken out (Ok more) = Turned out × (more ≡ false → Quiet)
+NextSays Turned Quiet Writes taken out (Ok more) = Turned out × IsFrontFor Writes taken out × (more ≡ false → Quiet)
 NextSays Turned Quiet Writes taken out (Err (status.Capture place reason)) = Stops Writes taken out (status.Capture place reason)
 NextSays Turned Quiet Writes taken out (Err (status.Pcapng place reason)) = Stops Writes taken out (status.Pcapng place reason)
 NextSays Turned Quiet Writes taken out (Err status.Memory) = Unit {0}
@@ -48,12 +53,15 @@ IsEnd answer = IsStop answer
 
 -- ---- the steps of a conversion
 
--- Of the input, of which so much is left, what was written and what waits was made. A desk that does not tell says of neither
--- which bytes they are.
-pub record StandsAt (Turned : List ℕ → List ℕ → Type 0) (tells : Bool) (input left written waits : List ℕ) : Type 0 where
+-- Of the input, of which so much is left, what was written and what waits was made, and it is a front of all that is written. The
+-- words of the command stay what they are. A desk that does not tell says of neither output nor input which bytes they are.
+pub record StandsAt {Said : Type 0} (Writes : Said → OutputRelation) (words said : Said) (Turned : List ℕ → List ℕ → Type 0) (count : ℕ) (tells : Bool) (input left written waits : List ℕ) : Type 0 where
+  pub same : said ≡ words
   pub taken : List ℕ
   pub put : List ℕ
   pub turned : Turned taken (put ++ waits)
+  pub front : IsFrontFor (Writes words) taken (put ++ waits)
+  pub size : count ≡ length taken
   pub joined : tells ≡ true → taken ++ left ≡ input
   pub put_is : tells ≡ true → put ≡ written
 
@@ -64,9 +72,9 @@ FrontOfAll Writes input written = (answer : Status) (all : List ℕ) → Writes 
 -- why a step is not done, and what was made then
 abbrev pub Breaks : OutputRelation → (input out written : List ℕ) → Status → Type 0
 Breaks Writes input out written (status.Capture place reason) =
-    Writes input (status.Capture place reason) out × (IsAtEnd (status.Capture place reason) → ⊥)
+    Writes input (status.Capture place reason) out × FrontOfAll Writes input out × (IsAtEnd (status.Capture place reason) → ⊥)
 Breaks Writes input out written (status.Pcapng place reason) =
-    Writes input (status.Pcapng place reason) out × (IsAtEnd (status.Pcapng place reason) → ⊥)
+    Writes input (status.Pcapng place reason) out × FrontOfAll Writes input out × (IsAtEnd (status.Pcapng place reason) → ⊥)
 Breaks Writes input out written (status.Long port) = (2 ^ 40 < length input) × FrontOfAll Writes input written
 Breaks Writes input out written (status.File port) = FrontOfAll Writes input written
 Breaks Writes input out written status.Memory = FrontOfAll Writes input written

@@ -57,12 +57,4 @@ pub trait Converter {
     fn finish(&self) -> Status
         ensures history { (taken out : List ℕ) → turned self.now taken out → is_quiet self.now → EndSays (writes (said self.now)) taken out result }
         ensures ends { IsEnd result };
-
-    ghost counted: { (c : Self) (taken out : List ℕ) → turned c taken out → count c ≡ length taken };
-
-    // For an input one answer is given, and one output.
-    ghost once: { (words : Self.Said) (input out other : List ℕ) (a b : Answer) → writes words input a out → writes words input b other → (a ≡ b) × (out ≡ other) };
-
-    // What was made of the first bytes is a front of what is written for all of them.
-    ghost fronts: { (c : Self) (taken left out all : List ℕ) (answer : Answer) → turned c taken out → writes (said c) (taken ++ left) answer all → IsFront out all };
 }

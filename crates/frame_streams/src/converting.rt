@@ -7,7 +7,7 @@ ghost use Rattle.sfc_desk.specs.declared.ports.Port.{Port as DeskPort};
 ghost use Rattle.commands.specs.declared.statuses.Status.TheVariants as answers;
 ghost use Rattle.commands.specs.Fronts.{IsFront};
 ghost use Rattle.commands.specs.Pieces.{NoneBound, SameCounts};
-ghost use Rattle.frame_streams.specs.Turning.{StandsAt, Breaks, ReadStops, WriteStops, Counts, IsEither, Told, Ends, Converts, is_told as is_told_status};
+ghost use Rattle.frame_streams.specs.Turning.{StandsAt, Breaks, FrontOfAll, ReadStops, WriteStops, Counts, IsEither, Told, Ends, Converts, is_told as is_told_status};
 
 use crate::converters::Converter;
 use commands::{PIECE, Status, empty, read_into};
@@ -28,9 +28,9 @@ fn read_piece<C: Converter, D: Desk>(
     requires reads { is_input input ≡ true }
     requires few { C.count converter.old ≤ 2 ^ 40 }
     requires some { 0 < length piece.old }
-    ensures goes_on { (whole written waits : List ℕ) → StandsAt (C.turned converter.old) D.tells whole (D.at desk.old input).left written waits
-        → OnOk result (StandsAt (C.turned converter.new) D.tells whole (D.at desk.new input).left written waits) }
-    ensures long { D.tells ≡ true → (whole written waits : List ℕ) → StandsAt (C.turned converter.old) D.tells whole (D.at desk.old input).left written waits
+    ensures goes_on { (words : C.Said) (whole written waits : List ℕ) → StandsAt C.writes words (C.said converter.old) (C.turned converter.old) (C.count converter.old) D.tells whole (D.at desk.old input).left written waits
+        → OnOk result (StandsAt C.writes words (C.said converter.new) (C.turned converter.new) (C.count converter.new) D.tells whole (D.at desk.new input).left written waits) }
+    ensures long { D.tells ≡ true → (words : C.Said) (whole written waits : List ℕ) → StandsAt C.writes words (C.said converter.old) (C.turned converter.old) (C.count converter.old) D.tells whole (D.at desk.old input).left written waits
         → IfErr result (λ status. status ≡ answers.Long input → 2 ^ 40 < length whole) }
     ensures end { D.tells ≡ true → IfOk result (λ n. n ≡ 0 → (D.at desk.new input).left ≡ []) }
     ensures still { IfOk result (λ n. n ≡ 0 → C.is_quiet converter.old → C.is_quiet converter.new) }
@@ -94,12 +94,12 @@ fn put_parts<C: Converter, D: Desk>(
 ) -> Result<(), Status>
     requires bound { (D.at desk.old output).bound ≡ true }
     requires writes { is_input output ≡ false }
-    requires stands { (whole left : List ℕ) × StandsAt (C.turned converter.old) D.tells whole left (D.at desk.old output).written buffer.old.items }
-    ensures goes_on { (whole left : List ℕ) → StandsAt (C.turned converter.old) D.tells whole left (D.at desk.old output).written buffer.old.items
-        → OnOk result (StandsAt (C.turned converter.new) D.tells whole left (D.at desk.new output).written buffer.new.items) }
+    requires stands { (words : C.Said) × (whole : List ℕ) × (left : List ℕ) × StandsAt C.writes words (C.said converter.old) (C.turned converter.old) (C.count converter.old) D.tells whole left (D.at desk.old output).written buffer.old.items }
+    ensures goes_on { (words : C.Said) (whole left : List ℕ) → StandsAt C.writes words (C.said converter.old) (C.turned converter.old) (C.count converter.old) D.tells whole left (D.at desk.old output).written buffer.old.items
+        → OnOk result (StandsAt C.writes words (C.said converter.new) (C.turned converter.new) (C.count converter.new) D.tells whole left (D.at desk.new output).written buffer.new.items) }
     ensures at_rest { OnOk result (C.is_quiet converter.new) }
-    ensures breaks { D.tells ≡ true → (whole left : List ℕ) → StandsAt (C.turned converter.old) D.tells whole left (D.at desk.old output).written buffer.old.items
-        → IfErr result (Breaks (C.writes (C.said converter.old)) whole ((D.at desk.new output).written ++ buffer.new.items) (D.at desk.new output).written) }
+    ensures breaks { D.tells ≡ true → (words : C.Said) (whole left : List ℕ) → StandsAt C.writes words (C.said converter.old) (C.turned converter.old) (C.count converter.old) D.tells whole left (D.at desk.old output).written buffer.old.items
+        → IfErr result (Breaks (C.writes words) whole ((D.at desk.new output).written ++ buffer.new.items) (D.at desk.new output).written) }
     ensures said { C.said converter.new ≡ C.said converter.old }
     ensures count { OnOk result (C.count converter.new ≡ C.count converter.old) }
     ensures quiet { OnOk result (SameCounts (D.at desk.old) (D.at desk.new)) }
@@ -136,13 +136,13 @@ fn convert_pieces<C: Converter, D: Desk>(
     requires few { C.count converter.old ≤ 2 ^ 40 }
     requires some { 0 < length piece.old }
     requires quiet { C.is_quiet converter.old }
-    requires stands { (whole : List ℕ) × StandsAt (C.turned converter.old) D.tells whole (D.at desk.old input).left (D.at desk.old output).written buffer.old.items }
-    ensures goes_on { (whole : List ℕ) → StandsAt (C.turned converter.old) D.tells whole (D.at desk.old input).left (D.at desk.old output).written buffer.old.items
-        → OnOk result (StandsAt (C.turned converter.new) D.tells whole (D.at desk.new input).left (D.at desk.new output).written buffer.new.items) }
+    requires stands { (words : C.Said) × (whole : List ℕ) × StandsAt C.writes words (C.said converter.old) (C.turned converter.old) (C.count converter.old) D.tells whole (D.at desk.old input).left (D.at desk.old output).written buffer.old.items }
+    ensures goes_on { (words : C.Said) (whole : List ℕ) → StandsAt C.writes words (C.said converter.old) (C.turned converter.old) (C.count converter.old) D.tells whole (D.at desk.old input).left (D.at desk.old output).written buffer.old.items
+        → OnOk result (StandsAt C.writes words (C.said converter.new) (C.turned converter.new) (C.count converter.new) D.tells whole (D.at desk.new input).left (D.at desk.new output).written buffer.new.items) }
     ensures at_rest { OnOk result (C.is_quiet converter.new) }
     ensures end { D.tells ≡ true → OnOk result ((D.at desk.new input).left ≡ []) }
-    ensures breaks { D.tells ≡ true → (whole : List ℕ) → StandsAt (C.turned converter.old) D.tells whole (D.at desk.old input).left (D.at desk.old output).written buffer.old.items
-        → IfErr result (Breaks (C.writes (C.said converter.old)) whole ((D.at desk.new output).written ++ buffer.new.items) (D.at desk.new output).written) }
+    ensures breaks { D.tells ≡ true → (words : C.Said) (whole : List ℕ) → StandsAt C.writes words (C.said converter.old) (C.turned converter.old) (C.count converter.old) D.tells whole (D.at desk.old input).left (D.at desk.old output).written buffer.old.items
+        → IfErr result (Breaks (C.writes words) whole ((D.at desk.new output).written ++ buffer.new.items) (D.at desk.new output).written) }
     ensures said { C.said converter.new ≡ C.said converter.old }
     ensures few { OnOk result (C.count converter.new ≤ 2 ^ 40) }
     ensures quiet { OnOk result (SameCounts (D.at desk.old) (D.at desk.new)) }
@@ -183,12 +183,15 @@ fn convert_all<C: Converter, D: Desk>(
     requires few { C.count converter.old ≤ 2 ^ 40 }
     requires some { 0 < length piece.old }
     requires quiet { C.is_quiet converter.old }
-    requires stands { (whole : List ℕ) × StandsAt (C.turned converter.old) D.tells whole (D.at desk.old input).left (D.at desk.old output).written buffer.old.items }
-    ensures told { D.tells ≡ true → (whole : List ℕ)
-        → StandsAt (C.turned converter.old) D.tells whole (D.at desk.old input).left (D.at desk.old output).written buffer.old.items
-        → Told (C.writes (C.said converter.old)) whole (D.at desk.new input).left ((D.at desk.new output).written ++ buffer.new.items) (D.at desk.new output).written result }
-    ensures turned { D.tells ≡ true → (whole : List ℕ)
-        → StandsAt (C.turned converter.old) D.tells whole (D.at desk.old input).left (D.at desk.old output).written buffer.old.items
+    requires stands { (words : C.Said) × (whole : List ℕ) × StandsAt C.writes words (C.said converter.old) (C.turned converter.old) (C.count converter.old) D.tells whole (D.at desk.old input).left (D.at desk.old output).written buffer.old.items }
+    ensures told { D.tells ≡ true → (words : C.Said) (whole : List ℕ)
+        → StandsAt C.writes words (C.said converter.old) (C.turned converter.old) (C.count converter.old) D.tells whole (D.at desk.old input).left (D.at desk.old output).written buffer.old.items
+        → Told (C.writes words) whole (D.at desk.new input).left ((D.at desk.new output).written ++ buffer.new.items) (D.at desk.new output).written result }
+    ensures front { D.tells ≡ true → (words : C.Said) (whole : List ℕ)
+        → StandsAt C.writes words (C.said converter.old) (C.turned converter.old) (C.count converter.old) D.tells whole (D.at desk.old input).left (D.at desk.old output).written buffer.old.items
+        → is_told_status result ≡ true → FrontOfAll (C.writes words) whole ((D.at desk.new output).written ++ buffer.new.items) }
+    ensures turned { D.tells ≡ true → (words : C.Said) (whole : List ℕ)
+        → StandsAt C.writes words (C.said converter.old) (C.turned converter.old) (C.count converter.old) D.tells whole (D.at desk.old input).left (D.at desk.old output).written buffer.old.items
         → result ≡ Status.Ok → C.turned converter.new whole ((D.at desk.new output).written ++ buffer.new.items) }
     ensures at_rest { result ≡ Status.Ok → C.is_quiet converter.new }
     ensures said { C.said converter.new ≡ C.said converter.old }
@@ -249,6 +252,7 @@ pub fn convert<C: Converter, D: Desk>(
     requires reads { is_input input ≡ true }
     requires writes { is_input output ≡ false }
     requires fresh { C.turned converter.old [] [] }
+    requires none { C.count converter.old ≡ 0 }
     requires quiet { C.is_quiet converter.old }
     requires empty { D.tells ≡ true → (D.at desk.old output).written ≡ [] }
     ensures converts { Converts (C.writes (C.said converter.old)) input output D.tells (D.at desk.old) (D.at desk.new) result }

@@ -7,7 +7,7 @@ use Rattle.frame_streams.proofs.converting.convert_pieces.Given as goal
 -- where the conversion stands goes on from where it stood, and between two pieces nothing is at hand
 abbrev pub invariant-pieces : goal.invariant-pieces
 invariant-pieces g l = record {
-  stands : (whole : List ℕ) → StandsAt (g.C.Converter.turned l.initial.converter) g.D.Desk.tells whole (g.D.Desk.at l.initial.desk l.fn.input).left (g.D.Desk.at l.initial.desk l.fn.output).written l.initial.buffer.items → StandsAt (g.C.Converter.turned l.converter) g.D.Desk.tells whole (g.D.Desk.at l.desk l.fn.input).left (g.D.Desk.at l.desk l.fn.output).written l.buffer.items;
+  stands : (words : _) (whole : List ℕ) → StandsAt g.C.Converter.writes words (g.C.Converter.said l.initial.converter) (g.C.Converter.turned l.initial.converter) (g.C.Converter.count l.initial.converter) g.D.Desk.tells whole (g.D.Desk.at l.initial.desk l.fn.input).left (g.D.Desk.at l.initial.desk l.fn.output).written l.initial.buffer.items → StandsAt g.C.Converter.writes words (g.C.Converter.said l.converter) (g.C.Converter.turned l.converter) (g.C.Converter.count l.converter) g.D.Desk.tells whole (g.D.Desk.at l.desk l.fn.input).left (g.D.Desk.at l.desk l.fn.output).written l.buffer.items;
   at_rest : g.C.Converter.is_quiet l.converter;
   said : g.C.Converter.said l.converter ≡ g.C.Converter.said l.initial.converter;
   few : g.C.Converter.count l.converter ≤ 2 ^ 40;
