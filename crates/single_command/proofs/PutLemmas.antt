@@ -1,20 +1,20 @@
 -- From one output to all three, and from one put to the next.
-use Rattle.std.proofs.Common.{◌≡◌, ◌≢◌, ◌⊎◌, inl, inr, Bool, true, ℕ, List, [], ◌++◌, append-nil, append_assoc, Result, Ok, Err, OnOk, refl, sym, ap, subst, ◌∙◌, arith}
+use Rattle.std.proofs.Common.{◌≡◌, ◌≢◌, inl, inr, Bool, true, ℕ, List, [], ◌++◌, append-nil, append_assoc, Result, Ok, Err, OnOk, refl, sym, ap, subst, ◌∙◌, arith}
 use Rattle.sfc_desk.specs.declared.ports.Port.{Port}
 use Rattle.sfc_desk.specs.declared.ports.Port.TheVariants as ports
 use Rattle.sfc_desk.specs.Desks.{Shown, Files, Rose, Moves}
 use Rattle.commands.specs.declared.writing.WriteFault.{WriteFault}
 use Rattle.commands.specs.declared.writing.WriteFault.TheVariants as write
 use Rattle.commands.specs.Fronts.{IsFront}
-use Rattle.commands.specs.Pieces.{NoneBound, SameCounts, Waiting}
-use Rattle.commands.proofs.FrontLemmas.{front_of_more, front_of_same}
-use Rattle.setup_inputs.proofs.MoveLemmas.{none_bound, none_bound_on}
+use Rattle.commands.specs.Pieces.{SameCounts, Waiting}
+use Rattle.commands.proofs.FrontLemmas.{front_of_same}
+use Rattle.setup_inputs.proofs.MoveLemmas.{none_bound}
 use Rattle.round_inputs.specs.declared.halts.Halt.{Halt}
 use Rattle.round_inputs.specs.declared.halts.Halt.TheVariants as halts
 use Rattle.round_inputs.specs.Halts.{Counts, IsPort}
 use Rattle.round_inputs.proofs.HaltLemmas.{counts_after, counts_halt}
 use Rattle.single_command.specs.declared.run_outputs.RunOutputs.{RunOutputs}
-use Rattle.single_command.specs.SingleSteps.{AreOpen, Finishes, IsOutput, NeverLong, Put, PutAll, PutFronts, PutsAt, PutsTexts, Texts, WritesOutputs, halt_of_fault, texts_behind}
+use Rattle.single_command.specs.SingleSteps.{AreOpen, Finishes, IsOutput, NeverLong, NothingWaits, Put, PutFronts, PutsAt, PutsTexts, Texts, WritesOutputs, halt_of_fault, nothing_more, texts_behind}
 
 -- ---- one put
 
@@ -268,15 +268,6 @@ puts_head tells then now had has old egress r head ready put =
 
 -- ---- the three writes of what waits
 
-abbrev pub nothing_more : Texts
-nothing_more = record { egress = []; lines = []; replies = [] }
-
--- nothing waits at an output any more
-pub record NothingWaits (outs : RunOutputs) : Type 0 where
-  pub egress : outs.egress.bytes ≡ []
-  pub lines : outs.lines.bytes ≡ []
-  pub replies : outs.replies.bytes ≡ []
-
 all_there : (written waits text : List ℕ) → waits ≡ [] → written ++ waits ≡ text ++ [] → written ≡ text
 all_there written waits text none is = sym (append-nil written) ∙ ap (λ l. written ++ l) (sym none) ∙ is ∙ append-nil text
 
@@ -309,6 +300,28 @@ finishes tells then now had has old new (Err halt) none puts = record {
   counts = puts.counts;
   never_long = puts.never_long;
   writes = puts.writes;
+}
+
+-- what was put is written, or a front of it
+pub puts_written : (tells : Bool) (then mid now : Port → Shown) (had has at_last : Files) (old middle new : RunOutputs) (r : Result (Unit {0}) Halt) (more : Texts)
+    → PutsTexts tells then mid had has old middle (Ok tt) more → PutsTexts tells mid now has at_last middle new r nothing_more → PutsTexts tells then now had at_last old new r more
+puts_written tells then mid now had has at_last old middle new r more first second = record {
+  ready = second.ready;
+  ok = λ told texts was. on_put r (Put now new (texts_behind (texts_behind texts more) nothing_more)) (Put now new (texts_behind texts more))
+      (λ done. record {
+        egress = done.egress ∙ append-nil (texts.egress ++ more.egress);
+        lines = done.lines ∙ append-nil (texts.lines ++ more.lines);
+        replies = done.replies ∙ append-nil (texts.replies ++ more.replies);
+      })
+      (second.ok told (texts_behind texts more) (first.ok told texts was));
+  front = λ told texts was. let all = second.front told (texts_behind texts more) (first.ok told texts was) in record {
+    egress = front_there (now ports.Egress).written (texts.egress ++ more.egress) all.egress;
+    lines = front_there (now ports.Lines).written (texts.lines ++ more.lines) all.lines;
+    replies = front_there (now ports.Replies).written (texts.replies ++ more.replies) all.replies;
+  };
+  counts = counts_after IsOutput then mid now r first.counts second.counts;
+  never_long = second.never_long;
+  writes = writes_then tells had has at_last then mid now first.writes second.writes;
 }
 
 -- ---- one write of what waits

@@ -40,8 +40,7 @@ use Rattle.worker_run.proofs.SingleRuns.{OneSingle}
 use Rattle.single_command.specs.declared.run_words.RunWords.{RunWords}
 use Rattle.single_command.specs.RunTexts.{RunWrites}
 use Rattle.single_command.specs.SingleCommand.{AreRunFiles, AsksTheEnd, BothAsk, CaptureIsLong, ControlIsLong, HasCapture, HasLongInput, HaveInputs, InputsAsk, IsRunPort, IsSingleWords, RunFiles, SingleEnds, SingleFronts, SingleRefused, SingleRuns, SingleWants, SingleWorks, SingleWritesSome, WasReadTo, run_ports, status_of_end}
-use Rattle.single_command.specs.SingleSteps.{EndedAt, PutAll, PutFronts, StoppedAt, Stopped, StreamWorks, Texts, capture_of, control_of, files_of, named_by, texts_of}
-use Rattle.single_command.proofs.PutLemmas.{nothing_more}
+use Rattle.single_command.specs.SingleSteps.{EndedAt, PutAll, PutFronts, StoppedAt, Stopped, StreamWorks, Texts, capture_of, control_of, files_of, named_by, nothing_more, texts_of}
 use Rattle.single_command.proofs.WriteLemmas.{Fronts, fronts_of, outputs_of, written_there}
 
 -- ---- words and ports

@@ -33,8 +33,7 @@ use Rattle.single_command.specs.declared.round_frames.RoundFrames.{RoundFrames}
 use Rattle.single_command.specs.declared.run_outputs.RunOutputs.{RunOutputs}
 use Rattle.single_command.specs.declared.single_runs.SingleRun.{SingleRun}
 use Rattle.single_command.specs.SingleCommand.{IsRunPort, WasReadTo, status_of_end}
-use Rattle.single_command.specs.SingleSteps.{Along, AreBound, AreOpen, EndedAt, Finishes, HaltSays, IsOutput, NeverLong, Over, Put, PutAll, PutFronts, PutsTexts, Said, SaidSo, Standing, Stopped, StreamSays, StreamWorks, Texts, WritesOutputs, capture_of, control_of, head_in, only_head, texts_behind, texts_of}
-use Rattle.single_command.proofs.PutLemmas.{NothingWaits, nothing_more}
+use Rattle.single_command.specs.SingleSteps.{Along, AreBound, AreOpen, EndedAt, Finishes, HaltSays, IsOutput, NeverLong, NothingWaits, Over, Put, PutAll, PutFronts, PutsTexts, Said, SaidSo, Standing, Stopped, StreamSays, StreamWorks, Texts, WritesOutputs, capture_of, control_of, head_in, nothing_more, only_head, texts_behind, texts_of}
 use Rattle.single_command.proofs.AlongLemmas.{capture_no_output, control_no_output, halt_says, none_bound_then, output_is_run, put_read, read_is_run, read_long, so_far_said}
 use Rattle.single_command.proofs.ReachLemmas.{reached_first}
 use Rattle.single_command.proofs.TakenLemmas.{holds_written, no_long, others_written}

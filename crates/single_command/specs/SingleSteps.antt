@@ -93,6 +93,9 @@ pub record Texts : Type 0 where
 abbrev pub texts_behind : Texts → Texts → Texts
 texts_behind texts more = record { egress = texts.egress ++ more.egress; lines = texts.lines ++ more.lines; replies = texts.replies ++ more.replies }
 
+abbrev pub nothing_more : Texts
+nothing_more = record { egress = []; lines = []; replies = [] }
+
 -- what the records said so far put there
 abbrev pub texts_of : Parts → Option Form → List Captured → List Segment → List Entry → List Record → Texts
 texts_of setup form passed history log said = record {
@@ -174,6 +177,12 @@ pub record PutFronts (at : Port → Shown) (texts : Texts) : Type 0 where
   pub egress : IsFront (at ports.Egress).written texts.egress
   pub lines : IsFront (at ports.Lines).written texts.lines
   pub replies : IsFront (at ports.Replies).written texts.replies
+
+-- nothing waits at an output any more
+pub record NothingWaits (outs : RunOutputs) : Type 0 where
+  pub egress : outs.egress.bytes ≡ []
+  pub lines : outs.lines.bytes ≡ []
+  pub replies : outs.replies.bytes ≡ []
 
 -- they took these texts
 pub record PutAll (at : Port → Shown) (texts : Texts) : Type 0 where

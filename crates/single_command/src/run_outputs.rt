@@ -154,7 +154,7 @@ fn finish<D: Desk>(desk: &mut D, output: &mut Output, port: Port) -> Result<(), 
 }
 
 impl RunOutputs {
-    ghost use Rattle.single_command.specs.SingleSteps.{only_head};
+    ghost use Rattle.single_command.specs.SingleSteps.{NothingWaits, nothing_more, only_head};
 
     /// Puts the file header of the capture's form at the egress, where there is one.
     pub fn put_header<D: Desk>(&mut self, desk: &mut D, form: Option<Form>) -> Result<(), Halt>
@@ -166,7 +166,7 @@ impl RunOutputs {
 
     /// Puts what a round comes to: the packets of the frames that go out, a line for each record, numbered from a place on, and the
     /// replies.
-    pub fn put_round<D: Desk>(
+    fn put_texts<D: Desk>(
         &mut self,
         desk: &mut D,
         form: Option<Form>,
@@ -197,9 +197,10 @@ impl RunOutputs {
     }
 
     /// Writes what waits at each output.
-    pub fn finish<D: Desk>(&mut self, desk: &mut D) -> Result<(), Halt>
+    fn write_waiting<D: Desk>(&mut self, desk: &mut D) -> Result<(), Halt>
         requires ready { AreOpen (D.at desk.old) self.old }
-        ensures { Finishes D.tells (D.at desk.old) (D.at desk.new) (D.held desk.old) (D.held desk.new) self.old result }
+        ensures puts { PutsTexts D.tells (D.at desk.old) (D.at desk.new) (D.held desk.old) (D.held desk.new) self.old self.new result nothing_more }
+        ensures nothing { OnOk result (NothingWaits self.new) }
     {
         if let Err(halt) = finish(desk, &mut self.egress, Port::Egress) {
             return Err(halt);
@@ -208,5 +209,34 @@ impl RunOutputs {
             return Err(halt);
         }
         finish(desk, &mut self.replies, Port::Replies)
+    }
+
+    /// Puts what a round comes to, and writes it: whoever reads an output sees each round as soon as it is done.
+    pub fn put_round<D: Desk>(
+        &mut self,
+        desk: &mut D,
+        form: Option<Form>,
+        roster: &Roster,
+        place: u64,
+        batch: &Batch,
+        replies: &[u8],
+    ) -> Result<(), Halt>
+        requires ready { AreOpen (D.at desk.old) self.old }
+        requires named { AreNamed roster.now batch.now }
+        ensures { PutsTexts D.tells (D.at desk.old) (D.at desk.new) (D.held desk.old) (D.held desk.new) self.old self.new result
+            (batch_texts form roster.now place batch.now replies.now) }
+    {
+        if let Err(halt) = self.put_texts(desk, form, roster, place, batch, replies) {
+            return Err(halt);
+        }
+        self.write_waiting(desk)
+    }
+
+    /// Writes what waits at each output.
+    pub fn finish<D: Desk>(&mut self, desk: &mut D) -> Result<(), Halt>
+        requires ready { AreOpen (D.at desk.old) self.old }
+        ensures { Finishes D.tells (D.at desk.old) (D.at desk.new) (D.held desk.old) (D.held desk.new) self.old result }
+    {
+        self.write_waiting(desk)
     }
 }

@@ -1,9 +1,8 @@
--- The egress, then the lines, then the replies.
-use Rattle.single_command.proofs.PutLemmas.{finishes, nothing_more, puts_all, stops_at_egress, stops_at_lines}
+-- What waits is written.
+use Rattle.single_command.proofs.PutLemmas.{finishes}
 use Rattle.single_command.proofs.run_outputs.RunOutputs.finish.Goals as goal
 
-pub returns-in-Err : goal.returns-in-Err
-returns-in-Err g c =
-    finishes g.D.Desk.tells (g.D.Desk.at c.args.desk.now) (g.D.Desk.at c.finish.new.desk) (g.D.Desk.held c.args.desk.now) (g.D.Desk.held c.finish.new.desk) c.args.self.now (record c.args.self.now { egress = c.finish.new.output }) _ tt
-    (stops_at_egress g.D.Desk.tells (g.D.Desk.at c.args.desk.now) (g.D.Desk.at c.finish.new.desk) (g.D.Desk.held c.args.desk.now) (g.D.Desk.held c.finish.new.desk) c.args.self.now c.finish.new.output c.in-Err.halt
-    nothing_more c.requires.ready c.in-Err.ensures.puts)
+pub returns : goal.returns
+returns g c =
+    finishes g.D.Desk.tells (g.D.Desk.at c.args.desk.now) (g.D.Desk.at c.write_waiting.new.desk) (g.D.Desk.held c.args.desk.now) (g.D.Desk.held c.write_waiting.new.desk) c.args.self.now c.write_waiting.new.self c.write_waiting.result
+    c.write_waiting.ensures.nothing c.write_waiting.ensures.puts
