@@ -1,4 +1,7 @@
 """Rows of the command `single` for crates/command_rows, and what each must print."""
+import pathlib
+import re
+
 import bgp
 import captures
 import checks
@@ -9,6 +12,7 @@ import runs
 import setups
 
 ROOM = 1000000
+TABLES = pathlib.Path(__file__).parents[2] / "crates" / "conformance_vectors" / "src"
 
 # One instance for each reason to drop a frame: rules send frames by their port to a path of its own.
 REASONS = """local 65000 192.0.2.1 90
@@ -219,6 +223,56 @@ def peers(rows):
         rows.single("single-s2", "single-k2", control)
 
 
+def cuts_of_the_chain(rows):
+    rows.say("# The capture of the chain, cut behind each of its bytes, and its control file, which is cut by one.")
+    whole = checks.chain_capture()
+    for size in range(len(whole)):
+        rows.file(f"single-nano-{size}", whole[:size])
+        rows.single("single-s1", f"single-nano-{size}", "single-a1")
+    rows.file("single-a1-cut", rows.files["single-a1"][:-1])
+    rows.single("single-s1", "single-nano", "single-a1-cut")
+
+
+def refused_inputs(table):
+    """The inputs of a table of crates/conformance_vectors that are refused."""
+    text = (TABLES / table).read_text()
+    numbers = lambda digits: bytes(int(number, 0) for number in re.findall(r"0x[0-9A-Fa-f]+|\d+", digits))
+    statics = {name: numbers(digits) for name, digits in re.findall(r"static ([A-Z_]+): \[u8; \d+\] = \[([^\]]*)\]", text)}
+    for form, digits, name, answer in re.findall(r'": (?:(marked!|&)\[([^\]]*)\]|&([A-Z_]+)) => ([A-Za-z:]+)', text):
+        if answer != "Expected::Accepted":
+            yield statics[name] if name else (bgp.MARKER if form == "marked!" else b"") + numbers(digits)
+
+
+def hostile(rows):
+    rows.say("# Peer 2 announces the chain; peer 1 sends each stream of messages that is refused, each behind a connection, and each refused UPDATE in a session.")
+    text = inputs.SETUP.replace("peer 1 65001", "peer 1 65001\npeer 2 65001")
+    setup = setups.read(text)
+    announced = inputs.announcement(setup, 2, setups.read_routes(inputs.ROUTES))
+    streams = [[segment(0, b"", controls.CONNECT), segment(0, data)] for data in refused_inputs("bgp.rt")]
+    contents = [[*checks.opened(), segment(0, bgp.message(bgp.UPDATE, content))] for content in refused_inputs("updates.rt")]
+    rows.text("single-two-peers", text)
+    rows.file("single-hostile", checks.joined(announced + sum(streams + contents, [])))
+    rows.single("single-two-peers", "single-nano", "single-hostile")
+
+
+def failing_calls(rows):
+    rows.say("# Each call on the desk fails in turn: first one on the setup, at last one on the replies; no output holds more than a front.")
+    rows.show(f"fails 7 {ROOM} single single-s1 single-nano single-a1 e l r")
+    rows.printed += [f"  file {port} 3" for port in ("setup", "capture", "control", "egress", "lines", "replies")] + ["  ok 0"]
+
+
+def streams(rows):
+    rows.say("# 600 frames, of which 512 are told before the last read of the capture, which fails: the calls are a bind and two reads of the setup, five binds,")
+    rows.say("# a read of the capture and of the control file, the writes of a round (file header and lines), those of the next (lines), and that read.")
+    rows.say("frames single-k600 600")
+    capture = rows.files["single-k600"] = checks.counted_capture(600)
+    rows.show(f"desk 65536 {ROOM} 13")
+    rows.show("sfc single single-s2 single-k600 single-none e l r")
+    run = runs.Single(setups.read(rows.files["single-s2"].decode()), capture, b"")
+    lines = b"".join(run.lines().splitlines(keepends=True)[:512])
+    rows.printed += ["  file capture 3", f"  egress {capture[:24].hex()}", f"  lines {lines.hex()}"]
+
+
 def words(rows):
     rows.say("# Words, and files that are not there.")
     for row in ("single single-s1 single-k1 single-a1 e l", "single single-s1 single-k1 single-a1 e l r x", "single single-s1 single-k1 single-a1 e e r",
@@ -232,6 +286,6 @@ def words(rows):
 
 def all_rows():
     rows = Rows()
-    for part in (story, chain, positions, reasons, empty, cuts, both_bad, groups, peers, words):
+    for part in (story, chain, positions, reasons, empty, cuts, both_bad, groups, peers, cuts_of_the_chain, hostile, failing_calls, streams, words):
         part(rows)
     return rows

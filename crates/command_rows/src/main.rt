@@ -14,6 +14,8 @@
 //! stations SPI COUNT        the end of a frame's walk over a path of so many functions, station by station
 //! sfc WORD ..               the command of these words over the desk, where `""` is the empty word: its status and number,
 //!                           and the bytes of each output that has any, those of Report as text
+//! fails PIECE ROOM WORD ..  the command of these words over desks with all files so far, of which each fails at another call, from the first to
+//!                           the last that is made: each status and number once, and each call behind which an output holds no front
 //! ```
 //!
 //! A row of another form is printed with a question mark.
@@ -21,9 +23,11 @@
 
 mod desks;
 mod digits;
+mod failures;
 mod named_files;
 mod ports;
 mod rows;
+mod statuses;
 
 use rows::Rows;
 use std::io;

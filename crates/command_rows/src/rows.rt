@@ -2,11 +2,13 @@
 
 use crate::desks::desk_of;
 use crate::digits::{Digits, push_digits};
+use crate::failures::Failing;
 use crate::named_files::{NamedFile, file_of_digits, file_of_frames, push_line};
 use crate::ports::{OUTPUTS, port_named};
+use crate::statuses::show_status;
 use commands::{ReadFault, read_all};
 use sfc_desk::{Desk, MemoryDesk, Port};
-use sfc_program::{OpenGate, Status, Words, sfc_call, status_line};
+use sfc_program::{OpenGate, Words, sfc_call};
 use std::alloc::{AllocError, Global};
 use std::io;
 use std::str::SplitWhitespace;
@@ -76,6 +78,7 @@ impl Rows {
             "bind" => self.bind(rt, words),
             "read" => self.read(rt, words),
             "sfc" => self.call(rt, words),
+            "fails" => self.fail_each(rt, words),
             _ => Ok(false),
         }
     }
@@ -151,6 +154,25 @@ impl Rows {
         show_outputs(rt, desk)?;
         Ok(true)
     }
+
+    /// `fails PIECE ROOM WORD ..`
+    fn fail_each<R: Print>(&self, rt: &R, words: &mut SplitWhitespace) -> io::Result<bool> {
+        let (Some(piece), Some(room)) = (next_number(words), next_number(words)) else {
+            return Ok(false);
+        };
+        if piece == 0 {
+            return Ok(false);
+        }
+        let words = words_of(self.alloc, words).map_err(memory_fault)?;
+        let failing = Failing {
+            alloc: self.alloc,
+            files: &self.files,
+            piece: piece as usize,
+            room: room as usize,
+            words: &words,
+        };
+        failing.show(rt)
+    }
 }
 
 fn next_number(words: &mut SplitWhitespace) -> Option<u32> {
@@ -196,11 +218,6 @@ fn bind_and_read(
     }
     desk.bind(port, name)?;
     read_all(alloc, desk, port, limit as usize)
-}
-
-fn show_status<R: Print>(rt: &R, status: &Status) -> io::Result<()> {
-    let line = status_line(status);
-    println!(rt; "  {} {}", line.as_str(), status.number())
 }
 
 /// Prints what each output holds that is not empty.
