@@ -1,0 +1,2 @@
+-- Edits of lists of routes that can always be made.
+pub mod EditExists
