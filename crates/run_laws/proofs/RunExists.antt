@@ -2,7 +2,6 @@
 use Rattle.std.proofs.Common.{◌≡◌, ◌≢◌, ℕ, List, [], ◌∷◌, ◌++◌, All, arith, length, refl, replicate, subst, sym}
 use Rattle.std.specs.List.{AllByRecursion, AllPairs, AllZip}
 use Rattle.std.proofs.lemmas.List.{get_or-replicate, length-replicate, take_all}
-use Rattle.std.proofs.lemmas.List.Elements.{All-from_recursion, recursion_from_All}
 use Rattle.wire_base.specs.Numbers.{AreBytes}
 use Rattle.bgp_session.specs.declared.local_sides.Local.{Local}
 use Rattle.control_files.specs.declared.segments.Segment.{Segment}
@@ -13,7 +12,6 @@ use Rattle.session_machine.specs.Groups.{Entry}
 use Rattle.sfc_config.specs.Parts.{AreParts, Parts}
 use Rattle.sfc_routes.specs.Entries.{Entries}
 use Rattle.sfc_routes.specs.PeerRoutes.{IsRouteChange}
-use Rattle.sfc_routes.proofs.MemberLemmas.{all_front}
 use Rattle.sfc_routes.specs.declared.route_changes.RouteChange.{RouteChange}
 use Rattle.path_selection.specs.Paths.{ServicePath}
 use Rattle.rounds.specs.Rounds.{Round, Rounds, segments_of}
@@ -26,8 +24,9 @@ use Rattle.control_histories.specs.Versions.{IsVersion, TableAfter}
 use Rattle.worker_run.specs.Records.{SingleRecord}
 use Rattle.worker_run.specs.Rounds.{SaysSingle}
 use Rattle.worker_run.specs.Runs.{IsSingle, single_says}
-use Rattle.worker_run.proofs.RunLemmas.{all_taken, peers_front}
-use Rattle.run_laws.specs.Histories.{IsHistory}
+use Rattle.worker_run.proofs.RunLemmas.{all_taken}
+use Rattle.history_laws.specs.Histories.{IsHistory}
+use Rattle.history_laws.proofs.HistoryLemmas.{history_front}
 use Rattle.run_laws.specs.Lookups.{AreFirst}
 
 -- ---- what the laws below say
@@ -113,12 +112,6 @@ some_saying laws setup history segments frames parts is =
     (each.0, record { log = log.0; heard = log.1; each = each.1 })
 
 -- ---- all rounds
-
-history_front : (peers : List (ℕ × ℕ)) (xs ys : List Segment) → IsHistory peers (xs ++ ys) → IsHistory peers xs
-history_front peers xs ys is = record { of_peers = peers_front peers xs ys is.of_peers; bytes = All-from_recursion HasBytes xs (all_front HasBytes xs ys (recursion_from_All HasBytes (xs ++ ys) is.bytes)) }
-  where
-    HasBytes : Segment → Type 0
-    HasBytes s = AreBytes s.bytes
 
 abbrev pub SomeSaying : Type 0
 SomeSaying = (setup : Parts) (history segments : List Segment) (frames : List Captured) → AreParts setup → IsHistory setup.peers (history ++ segments)

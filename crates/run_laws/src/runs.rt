@@ -7,14 +7,14 @@ ghost use Rattle.record_text.specs.declared.records.Record.{Record};
 ghost use Rattle.sfc_config.specs.Parts.{Parts, AreParts};
 ghost use Rattle.worker_run.specs.Rounds.{SaysSingle};
 ghost use Rattle.worker_run.specs.Runs.{IsRun, IsSingle, SaysRun};
-ghost use Rattle.run_laws.specs.Histories.{IsHistory};
+ghost use Rattle.history_laws.specs.Histories.{IsHistory};
 
 use crate::walks::every_frame_has_a_walk;
 use control_histories::{
     changes_of_a_log_are_taken, every_list_of_segments_has_a_log, segments_have_one_log,
 };
+use history_laws::every_list_of_changes_has_a_table;
 use rounds::one_list_of_rounds;
-use table_laws::every_list_of_changes_has_a_table;
 use worker_run::{a_single_run_is_a_run, a_single_run_is_what_its_rounds_say};
 
 /// Every round behind a history of segments of the setup's peers says a list of records: on one thread, and so on any number of

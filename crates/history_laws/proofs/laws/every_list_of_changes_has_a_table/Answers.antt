@@ -1,5 +1,5 @@
 -- The routes that stand have a selection.
-use Rattle.table_laws.proofs.laws.every_list_of_changes_has_a_table.Goals as goal
+use Rattle.history_laws.proofs.laws.every_list_of_changes_has_a_table.Goals as goal
 
 pub returns : goal.returns
 returns c = λ roster changes fit.
