@@ -1,15 +1,22 @@
 -- The segments of a control file are of its peers, and bring bytes.
-use Rattle.std.proofs.Common.{ℕ, ◌<◌, List, [], ◌∷◌, ◌++◌, Contains, Option, length, subst}
-use Rattle.std.specs.List.{AllByRecursion}
+use Rattle.std.proofs.Common.{◌≢◌, All, ℕ, ◌<◌, List, [], ◌∷◌, ◌++◌, Contains, Option, length, subst}
+use Rattle.std.specs.List.{AllByRecursion, AllPairs}
 use Rattle.std.proofs.lemmas.List.Elements.{All-from_recursion, recursion_from_All}
 use Rattle.wire_base.specs.Numbers.{AreBytes}
+use Rattle.bgp_session.specs.declared.local_sides.Local.{Local}
 use Rattle.control_files.specs.declared.reasons.Refusal.{Refusal}
 use Rattle.control_files.specs.declared.segments.Mark.{Mark}
 use Rattle.control_files.specs.declared.segments.Segment.{Segment}
 use Rattle.control_files.specs.Reads.{ReadsControl}
 use Rattle.control_files.specs.Segments.{AreSegments, head_bytes, mark_of, numbers, segment_bytes, segments_bytes, start}
+use Rattle.sfc_routes.specs.Entries.{Entries}
+use Rattle.sfc_routes.specs.PeerRoutes.{IsRouteChange}
+use Rattle.sfc_routes.specs.declared.route_changes.RouteChange.{RouteChange}
 use Rattle.sfc_routes.proofs.MemberLemmas.{all_back, all_front}
-use Rattle.control_histories.specs.Logs.{AreOfPeers}
+use Rattle.path_selection.specs.Paths.{ServicePath}
+use Rattle.session_machine.specs.Groups.{Entry}
+use Rattle.control_histories.specs.Logs.{AreOfPeers, Heard, changes_of}
+use Rattle.control_histories.specs.Versions.{TableAfter}
 use Rattle.history_laws.specs.Histories.{IsHistory}
 
 -- ---- peers
@@ -56,3 +63,16 @@ history_front peers xs ys is = record {
   of_peers = All-from_recursion (OfPeers peers) xs (all_front (OfPeers peers) xs ys (recursion_from_All (OfPeers peers) (xs ++ ys) is.of_peers));
   bytes = All-from_recursion HasBytes xs (all_front HasBytes xs ys (recursion_from_All HasBytes (xs ++ ys) is.bytes));
 }
+
+-- ---- what the laws on logs and tables say
+
+abbrev pub SomeLog : Type 0
+SomeLog = (local : Local) (peers : List (ℕ × ℕ)) (segments : List Segment) → AllPairs (λ p q. p.0 ≢ q.0) peers → AreOfPeers peers segments
+    → All (λ (s : Segment). AreBytes s.bytes) segments → (log : List Entry) × Heard local peers segments log
+
+abbrev pub Taken : Type 0
+Taken = (local : Local) (peers : List (ℕ × ℕ)) (segments : List Segment) (log : List Entry) → AreOfPeers peers segments → Heard local peers segments log
+    → AllByRecursion IsRouteChange (changes_of log)
+
+abbrev pub SomeTable : Type 0
+SomeTable = (roster : Entries) (changes : List RouteChange) → AllByRecursion IsRouteChange changes → (table : List ServicePath) × TableAfter roster changes table

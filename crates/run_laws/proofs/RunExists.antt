@@ -1,17 +1,13 @@
 -- Every round says something, and every two inputs have a run.
-use Rattle.std.proofs.Common.{◌≡◌, ◌≢◌, ℕ, List, [], ◌∷◌, ◌++◌, All, arith, length, refl, replicate, subst, sym}
-use Rattle.std.specs.List.{AllByRecursion, AllPairs, AllZip}
+use Rattle.std.proofs.Common.{◌≡◌, ℕ, List, [], ◌∷◌, ◌++◌, All, arith, length, refl, replicate, subst, sym}
+use Rattle.std.specs.List.{AllZip}
 use Rattle.std.proofs.lemmas.List.{get_or-replicate, length-replicate, take_all}
-use Rattle.wire_base.specs.Numbers.{AreBytes}
-use Rattle.bgp_session.specs.declared.local_sides.Local.{Local}
 use Rattle.control_files.specs.declared.segments.Segment.{Segment}
 use Rattle.net_frames.specs.Captured.{Captured as Framed}
 use Rattle.pcap_io.specs.declared.frames.Captured.{Captured}
 use Rattle.record_text.specs.declared.records.Record.{Record}
-use Rattle.session_machine.specs.Groups.{Entry}
 use Rattle.sfc_config.specs.Parts.{AreParts, Parts}
 use Rattle.sfc_routes.specs.Entries.{Entries}
-use Rattle.sfc_routes.specs.PeerRoutes.{IsRouteChange}
 use Rattle.sfc_routes.specs.declared.route_changes.RouteChange.{RouteChange}
 use Rattle.path_selection.specs.Paths.{ServicePath}
 use Rattle.rounds.specs.Rounds.{Round, Rounds, segments_of}
@@ -19,31 +15,20 @@ use Rattle.rounds.specs.Says.{IsSayable, Lines}
 use Rattle.rounds.proofs.EndLemmas.{some_lines}
 use Rattle.forwarder.specs.Walks.{IsWalk, Walk}
 use Rattle.forwarder.specs.Workspaces.{taken_in}
-use Rattle.control_histories.specs.Logs.{AreOfPeers, Heard, changes_of}
+use Rattle.control_histories.specs.Logs.{AreOfPeers, changes_of}
 use Rattle.control_histories.specs.Versions.{IsVersion, TableAfter}
 use Rattle.worker_run.specs.Records.{SingleRecord}
 use Rattle.worker_run.specs.Rounds.{SaysSingle}
 use Rattle.worker_run.specs.Runs.{IsSingle, single_says}
 use Rattle.worker_run.proofs.RunLemmas.{all_taken}
 use Rattle.history_laws.specs.Histories.{IsHistory}
-use Rattle.history_laws.proofs.HistoryLemmas.{history_front}
+use Rattle.history_laws.proofs.HistoryLemmas.{SomeLog, SomeTable, Taken, history_front}
 use Rattle.run_laws.specs.Lookups.{AreFirst}
 
 -- ---- what the laws below say
 
 abbrev pub SomeWalk : Type 0
 SomeWalk = (setup : Parts) (frame : Framed) (at : ℕ → List ServicePath) → (walk : Walk) × IsWalk setup frame walk × AreFirst at walk.tables
-
-abbrev pub SomeLog : Type 0
-SomeLog = (local : Local) (peers : List (ℕ × ℕ)) (segments : List Segment) → AllPairs (λ p q. p.0 ≢ q.0) peers → AreOfPeers peers segments
-    → All (λ (s : Segment). AreBytes s.bytes) segments → (log : List Entry) × Heard local peers segments log
-
-abbrev pub Taken : Type 0
-Taken = (local : Local) (peers : List (ℕ × ℕ)) (segments : List Segment) (log : List Entry) → AreOfPeers peers segments → Heard local peers segments log
-    → AllByRecursion IsRouteChange (changes_of log)
-
-abbrev pub SomeTable : Type 0
-SomeTable = (roster : Entries) (changes : List RouteChange) → AllByRecursion IsRouteChange changes → (table : List ServicePath) × TableAfter roster changes table
 
 pub record Laws : Type 0 where
   pub walk : SomeWalk

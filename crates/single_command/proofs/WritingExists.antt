@@ -15,9 +15,8 @@ use Rattle.rounds.proofs.FrontRounds.{counted_is_front, fronts}
 use Rattle.rounds.proofs.RoundLemmas.{exists}
 use Rattle.commands.specs.Outputs.{Outputs}
 use Rattle.history_laws.specs.Histories.{IsHistory}
-use Rattle.history_laws.proofs.HistoryLemmas.{history_front, is_history}
+use Rattle.history_laws.proofs.HistoryLemmas.{SomeLog, history_front, is_history}
 use Rattle.round_inputs.specs.Taking.{AreInputs}
-use Rattle.run_laws.proofs.RunExists.{SomeLog}
 use Rattle.worker_run.specs.Outputs.{EgressOf, LinesOf, RepliesOf}
 use Rattle.single_command.specs.RunTexts.{CountsTo, RunOf, RunWrites}
 use Rattle.single_command.specs.SingleSteps.{Texts}
