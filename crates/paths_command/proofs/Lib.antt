@@ -3,3 +3,4 @@ pub mod RunLemmas
 pub mod StreamLemmas
 pub mod PathsLemmas
 pub mod WholeLemmas
+pub mod TextExists

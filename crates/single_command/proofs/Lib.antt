@@ -3,6 +3,7 @@
 pub mod TextLemmas
 pub mod ReachLemmas
 pub mod WriteLemmas
+pub mod WritingExists
 pub mod PutLemmas
 pub mod AlongLemmas
 pub mod TakenLemmas

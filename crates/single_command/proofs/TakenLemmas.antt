@@ -1,7 +1,6 @@
 -- The round that was taken may be run, and what is known when it was.
-use Rattle.std.proofs.Common.{◌≡◌, ◌≢◌, ◌⊎◌, inl, inr, ℕ, ◌+◌, ◌<◌, ◌≤◌, ◌^◌, Bool, true, List, [], ◌∷◌, ◌++◌, append_assoc, length, map, All, Contains, Option, None, Some, Result, Ok, Err, OnOk, IfErr, refl, sym, ap, subst, ◌∙◌, arith, length-append}
-use Rattle.std.specs.List.{AllByRecursion, AllZip, flat_map}
-use Rattle.std.proofs.lemmas.List.{length-map, map-append}
+use Rattle.std.proofs.Common.{◌≡◌, ◌⊎◌, inl, inr, ℕ, ◌+◌, ◌≤◌, ◌^◌, Bool, true, List, [], ◌∷◌, ◌++◌, length, Contains, Option, None, Some, Result, Ok, Err, OnOk, IfErr, sym, ap, subst, ◌∙◌, arith, length-append}
+use Rattle.std.specs.List.{AllByRecursion}
 use Rattle.std.proofs.lemmas.List.Concat.{flat_map-cons}
 use Rattle.std.proofs.lemmas.List.Elements.{All-from_recursion}
 use Rattle.std.proofs.lemmas.Slice.Zip.{AllZip-long}
@@ -24,10 +23,10 @@ use Rattle.session_machine.specs.Groups.{Entry}
 use Rattle.session_machine.specs.Peers.{AllHold}
 use Rattle.sfc_config.specs.Parts.{Parts}
 use Rattle.sfc_routes.proofs.MemberLemmas.{all_front, all_back}
-use Rattle.rounds.specs.Views.{Inputs, IsNext}
-use Rattle.commands.specs.Pieces.{NoneBound, SameCounts}
-use Rattle.control_histories.specs.Logs.{AreOfPeers, Heard, changes_of}
-use Rattle.control_histories.proofs.RoomLemmas.{hold_more}
+use Rattle.rounds.specs.Views.{Inputs}
+use Rattle.commands.specs.Pieces.{SameCounts}
+use Rattle.history_laws.proofs.HistoryLemmas.{peers_of_all}
+use Rattle.control_histories.specs.Logs.{AreOfPeers, changes_of}
 use Rattle.round_inputs.specs.declared.frames_ahead.FrameAhead.{FrameAhead}
 use Rattle.round_inputs.specs.declared.frames_ahead.FrameAhead.TheVariants as frame
 use Rattle.round_inputs.specs.declared.segments_ahead.SegmentAhead.{SegmentAhead}
@@ -37,7 +36,7 @@ use Rattle.round_inputs.specs.declared.halts.Halt.TheVariants as halts
 use Rattle.round_inputs.specs.declared.round_inputs.RoundInputs.{RoundInputs}
 use Rattle.round_inputs.specs.Ahead.{CaptureAt, ControlAt, with_frame, with_segment}
 use Rattle.round_inputs.specs.Halts.{Counts}
-use Rattle.round_inputs.specs.Taking.{AreInputs, HoldsAt, left_of, round_of}
+use Rattle.round_inputs.specs.Taking.{AreInputs, HoldsAt, round_of}
 use Rattle.round_inputs.proofs.ReadLemmas.{segments_size}
 use Rattle.worker_run.specs.declared.runners.Runner.{Runner}
 use Rattle.worker_run.specs.Batches.{AreWithinLimits, Carried, frames_in, records_in}
@@ -50,12 +49,10 @@ use Rattle.single_command.specs.declared.round_frames.RoundFrames.{RoundFrames}
 use Rattle.single_command.specs.declared.run_outputs.RunOutputs.{RunOutputs}
 use Rattle.single_command.specs.declared.single_runs.SingleRun.{SingleRun}
 use Rattle.single_command.specs.SingleCommand.{IsRunPort}
-use Rattle.single_command.specs.SingleSteps.{Along, AreOpen, HaltSays, IsOutput, NeverLong, Put, PutFronts, Reached, RoundPuts, Said, SaidSo, Standing, StoppedAt, Taken, Texts, WritesOutputs, batch_texts, capture_of, control_of, texts_behind, texts_of, view_of}
+use Rattle.single_command.specs.SingleSteps.{Along, AreOpen, HaltSays, IsOutput, NeverLong, Put, PutFronts, Reached, RoundPuts, Said, Standing, StoppedAt, Taken, Texts, WritesOutputs, batch_texts, capture_of, control_of, texts_behind, texts_of, view_of}
 use Rattle.single_command.proofs.AlongLemmas.{capture_no_output, control_no_output, halt_says, heard_by, none_bound_then, output_is_run, so_far_said}
 use Rattle.single_command.proofs.ReachLemmas.{reached_next}
 use Rattle.single_command.proofs.TextLemmas.{texts_next}
-use Rattle.single_command.proofs.WriteLemmas.{peers_of_all}
-use Rattle.worker_run.proofs.RunLemmas.{peers_front}
 
 -- ---- the frames
 

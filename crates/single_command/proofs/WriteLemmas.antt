@@ -1,14 +1,10 @@
 -- What was said is what a run writes, or a front of it.
-use Rattle.std.proofs.Common.{◌≡◌, ℕ, List, [], ◌∷◌, ◌++◌, length, Contains, Option, None, Some, refl, sym, ap, subst, ◌∙◌, append_assoc, arith, ◌+◌}
-use Rattle.std.specs.List.{AllByRecursion}
-use Rattle.std.proofs.lemmas.List.Elements.{All-from_recursion}
-use Rattle.sfc_desk.specs.declared.ports.Port.{Port}
+use Rattle.std.proofs.Common.{◌≡◌, ℕ, List, [], ◌++◌, length, Option, refl, sym, ap, subst, ◌∙◌, arith, ◌+◌}
 use Rattle.sfc_desk.specs.declared.ports.Port.TheVariants as ports
 use Rattle.pcap_io.specs.declared.forms.Form.{Form}
 use Rattle.pcap_io.specs.declared.frames.Captured.{Captured}
 use Rattle.control_files.specs.declared.segments.Segment.{Segment}
-use Rattle.control_files.specs.declared.segments.Mark.{Mark}
-use Rattle.control_files.specs.Segments.{AreSegments, mark_of, numbers, start}
+use Rattle.control_files.specs.Segments.{numbers}
 use Rattle.record_text.specs.declared.records.Record.{Record}
 use Rattle.session_machine.specs.Groups.{Entry}
 use Rattle.sfc_config.specs.Parts.{Parts}
@@ -17,7 +13,7 @@ use Rattle.rounds.specs.declared.ends.RunEnd.{RunEnd}
 use Rattle.rounds.specs.Counted.{counted, end_of}
 use Rattle.rounds.specs.Rounds.{Round, Rounds, frames_of, segments_of}
 use Rattle.rounds.specs.Says.{IsOne, Lines}
-use Rattle.rounds.specs.Views.{Gives, Inputs, Told, counted_at, counted_of, end_at, ending, so_far, view_at_first}
+use Rattle.rounds.specs.Views.{Gives, Inputs, counted_at, counted_of, end_at, ending, view_at_first}
 use Rattle.rounds.proofs.FrontRounds.{counted_is_front, fronts, rounds_of_counted}
 use Rattle.rounds.proofs.RoundLemmas.{unique}
 use Rattle.commands.specs.Fronts.{IsFront}
@@ -26,6 +22,7 @@ use Rattle.control_histories.specs.Logs.{AreOfPeers, Heard}
 use Rattle.control_histories.specs.Replies.{reply_bytes}
 use Rattle.control_histories.proofs.FrontLemmas.{front_heard}
 use Rattle.control_histories.proofs.ReplyLemmas.{bytes_behind}
+use Rattle.history_laws.proofs.HistoryLemmas.{peers_of_all}
 use Rattle.round_inputs.specs.Taking.{AreInputs, EndsAt, left_of}
 use Rattle.round_inputs.proofs.LawLemmas.{one_inputs}
 use Rattle.worker_run.specs.Outputs.{EgressOf, LinesOf, RepliesOf, lines_from}
@@ -158,13 +155,6 @@ written_there one_log setup capture control form passed history log said end who
     }
 
 -- ---- the peers of the segments that count
-
-peers_given : (peers : List (ℕ × ℕ)) (mark : Mark) (ss : List Segment) → AreSegments (numbers peers) mark ss → AllByRecursion (λ (s : Segment). Contains (numbers peers) s.peer) ss
-peers_given peers mark [] each = tt
-peers_given peers mark (s ∷ ss) each = (each.0.peer, peers_given peers (mark_of s) ss each.1)
-
-pub peers_of_all : (peers : List (ℕ × ℕ)) (ss : List Segment) → AreSegments (numbers peers) start ss → AreOfPeers peers ss
-peers_of_all peers ss each = All-from_recursion (λ (s : Segment). Contains (numbers peers) s.peer) ss (peers_given peers start ss each)
 
 peers_of : (setup : Parts) (capture control : List ℕ) (form : Option Form) (end : RunEnd) (frames : List Captured) (segments : List Segment) → CountsTo capture control (numbers setup.peers) form end frames segments → AreOfPeers setup.peers segments
 peers_of setup capture control form end frames segments x =

@@ -13,7 +13,7 @@
 //! - `single_call` takes the words and does what they say over a desk (`SingleCall`): with Ok, the outputs took exactly what the one
 //!   run on one thread puts there (`RunWrites`, `IsSingle`); where an input is refused, what it puts there over the frames and
 //!   segments that count; after a failed call, want of memory or an input that is too long, fronts of this.
-//! - Two files have one such run (`one_run_is_written`).
+//! - Two files have one such run (`one_run_is_written`), and every two have one (`every_two_files_have_a_run`).
 //! - For other commands over both files: `read_run_words` reads the six names, `open_files` binds the ports behind the setup, `RoundFrames`
 //!   takes the frames of a round, and `RunOutputs` puts what a round comes to.
 //!
@@ -34,7 +34,7 @@ mod single_calls;
 mod single_runs;
 mod single_streams;
 
-pub use laws::one_run_is_written;
+pub use laws::{every_two_files_have_a_run, one_run_is_written};
 pub use round_frames::RoundFrames;
 pub use run_openings::open_files;
 pub use run_outputs::RunOutputs;
