@@ -15,7 +15,7 @@ misled by the same sentence. Stored outputs of rows are taken from it, never fro
 files, works on whole lists and is slow. A setup and a routes text are taken to be right, and words are not checked.
 
 `example` makes the capture and the control file of a folder with a setup and routes, as `examples/chain`. `rows` writes rows of
-`single` for crates/command_rows, and what they must print. `check` tries the model on cases that were worked by hand. The exit status is that of the command that it speaks for, and behind a
+`single` and `generate` for crates/command_rows, and what they must print. `check` tries the model on cases that were worked by hand. The exit status is that of the command that it speaks for, and behind a
 refused capture or control file the place and the reason stand on standard error.
 """
 import sys

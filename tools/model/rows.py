@@ -1,4 +1,4 @@
-"""Rows of the command `single` for crates/command_rows, and what each must print."""
+"""Rows of the commands `single` and `generate` for crates/command_rows, and what each must print."""
 import pathlib
 import re
 
@@ -87,6 +87,12 @@ class Rows:
         for name, data in (("egress", run.egress()), ("lines", run.lines()), ("replies", run.reply_file())):
             if data:
                 self.printed.append(f"  {name} {data.hex()}")
+
+    def generate(self, seed, count):
+        self.show(f"desk 65536 {ROOM}")
+        self.show(f"sfc generate {seed} {count}")
+        line = inputs.summary(seed, count)
+        self.printed += ["  ok 0", f"  report {len(line) + 1} bytes", f"  | {line}"]
 
 
 def segment(position, data, kind=controls.BYTES, moment=0, peer=1):
@@ -284,8 +290,22 @@ def words(rows):
     rows.refused("sfc single single-k0 nothing nothing e l r", "setup 1 byte 4")
 
 
+def generated(rows):
+    rows.say("# Generated inputs: one frame, up to a change and past it, a seed of 64 bits, cuts at 256 and 512.")
+    for seed, count in ((0, 1), (7, 64), (7, 65), (2**64 - 1, 129), (1, 600)):
+        rows.generate(seed, count)
+    rows.say("# The write of the line fails, by its number and for want of room.")
+    for desk in (f"65536 {ROOM} 0", "65536 10"):
+        rows.show(f"desk {desk}")
+        rows.show("sfc generate 7 65")
+        rows.printed.append("  file report 3")
+    rows.say("# Words.")
+    for row in ("generate", "generate 7", "generate 7 65 e", "generate 07 65", "generate 7 065", "generate 7 0", "generate 7 65537", "generate 18446744073709551616 1", "generate -7 1", "generate \"\" 1"):
+        rows.refused(f"sfc {row}", "words 2")
+
+
 def all_rows():
     rows = Rows()
-    for part in (story, chain, positions, reasons, empty, cuts, both_bad, groups, peers, cuts_of_the_chain, hostile, failing_calls, streams, words):
+    for part in (story, chain, positions, reasons, empty, cuts, both_bad, groups, peers, cuts_of_the_chain, hostile, failing_calls, streams, words, generated):
         part(rows)
     return rows

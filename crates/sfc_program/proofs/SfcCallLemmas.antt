@@ -13,7 +13,8 @@ use Rattle.show_command.specs.ShowCommand.{Show, IsShow, ShowRuns, ShowWants, sh
 use Rattle.announce_command.specs.AnnounceCommand.{Announce, IsAnnounce, AnnounceRuns, AnnounceWants, announce_ports}
 use Rattle.paths_command.specs.PathsCommand.{Paths, IsPaths, PathsRuns, PathsWants, paths_ports}
 use Rattle.single_command.specs.SingleCommand.{RunFiles, IsSingleWords, SingleRuns, SingleWants, run_ports}
-use Rattle.sfc_program.specs.SfcCalls.{Command, walk, show, announce, paths, single, Spells, Runs, Wants, RowCall, row_of}
+use Rattle.generate_command.specs.GenerateCommand.{Generate, IsGenerate, GenerateRuns, GenerateWants, generate_ports}
+use Rattle.sfc_program.specs.SfcCalls.{Command, walk, show, announce, paths, single, generate, Spells, Runs, Wants, RowCall, row_of}
 
 -- the words of a command pick its row
 walk_row : (words : List (List ℕ)) (said : Walk) → IsWalk words said → row_of words ≡ row.Walk
@@ -31,6 +32,9 @@ paths_row words said is = ap row_of is.spelled
 single_row : (words : List (List ℕ)) (said : RunFiles) → IsSingleWords words said → row_of words ≡ row.Single
 single_row words said is = ap row_of is.spelled
 
+generate_row : (words : List (List ℕ)) (said : Generate) → IsGenerate words said → row_of words ≡ row.Generate
+generate_row words said is = ap row_of is.spelled
+
 -- what the call of a row says, said of all commands
 pub record AllCommands (words : List (List ℕ)) (tells : Bool) (held : Files) (then now : Port → Shown) (answer : Status) : Type 0 where
   pub words_fault : (answer ≡ status.Words) ↔ ((command : Command) → Spells words command → ⊥)
@@ -45,6 +49,7 @@ unknown_spells_none words (show said) picked is = let other : row_of words ≡ r
 unknown_spells_none words (announce said) picked is = let other : row_of words ≡ row.Announce = announce_row words said is in cc
 unknown_spells_none words (paths said) picked is = let other : row_of words ≡ row.Paths = paths_row words said is in cc
 unknown_spells_none words (single said) picked is = let other : row_of words ≡ row.Single = single_row words said is in cc
+unknown_spells_none words (generate said) picked is = let other : row_of words ≡ row.Generate = generate_row words said is in cc
 
 -- words that pick a row spell that row's command alone
 spells_walk : (words : List (List ℕ)) (command : Command) → row_of words ≡ row.Walk → Spells words command → (said : Walk) × (command ≡ walk said) × IsWalk words said
@@ -53,6 +58,7 @@ spells_walk words (show said) picked is = let other : row_of words ≡ row.Show 
 spells_walk words (announce said) picked is = let other : row_of words ≡ row.Announce = announce_row words said is in cc
 spells_walk words (paths said) picked is = let other : row_of words ≡ row.Paths = paths_row words said is in cc
 spells_walk words (single said) picked is = let other : row_of words ≡ row.Single = single_row words said is in cc
+spells_walk words (generate said) picked is = let other : row_of words ≡ row.Generate = generate_row words said is in cc
 
 spells_show : (words : List (List ℕ)) (command : Command) → row_of words ≡ row.Show → Spells words command → (said : Show) × (command ≡ show said) × IsShow words said
 spells_show words (walk said) picked is = let other : row_of words ≡ row.Walk = walk_row words said is in cc
@@ -60,6 +66,7 @@ spells_show words (show said) picked is = (said, refl, is)
 spells_show words (announce said) picked is = let other : row_of words ≡ row.Announce = announce_row words said is in cc
 spells_show words (paths said) picked is = let other : row_of words ≡ row.Paths = paths_row words said is in cc
 spells_show words (single said) picked is = let other : row_of words ≡ row.Single = single_row words said is in cc
+spells_show words (generate said) picked is = let other : row_of words ≡ row.Generate = generate_row words said is in cc
 
 spells_announce : (words : List (List ℕ)) (command : Command) → row_of words ≡ row.Announce → Spells words command → (said : Announce) × (command ≡ announce said) × IsAnnounce words said
 spells_announce words (walk said) picked is = let other : row_of words ≡ row.Walk = walk_row words said is in cc
@@ -67,6 +74,7 @@ spells_announce words (show said) picked is = let other : row_of words ≡ row.S
 spells_announce words (announce said) picked is = (said, refl, is)
 spells_announce words (paths said) picked is = let other : row_of words ≡ row.Paths = paths_row words said is in cc
 spells_announce words (single said) picked is = let other : row_of words ≡ row.Single = single_row words said is in cc
+spells_announce words (generate said) picked is = let other : row_of words ≡ row.Generate = generate_row words said is in cc
 
 spells_paths : (words : List (List ℕ)) (command : Command) → row_of words ≡ row.Paths → Spells words command → (said : Paths) × (command ≡ paths said) × IsPaths words said
 spells_paths words (walk said) picked is = let other : row_of words ≡ row.Walk = walk_row words said is in cc
@@ -74,6 +82,7 @@ spells_paths words (show said) picked is = let other : row_of words ≡ row.Show
 spells_paths words (announce said) picked is = let other : row_of words ≡ row.Announce = announce_row words said is in cc
 spells_paths words (paths said) picked is = (said, refl, is)
 spells_paths words (single said) picked is = let other : row_of words ≡ row.Single = single_row words said is in cc
+spells_paths words (generate said) picked is = let other : row_of words ≡ row.Generate = generate_row words said is in cc
 
 spells_single : (words : List (List ℕ)) (command : Command) → row_of words ≡ row.Single → Spells words command → (said : RunFiles) × (command ≡ single said) × IsSingleWords words said
 spells_single words (walk said) picked is = let other : row_of words ≡ row.Walk = walk_row words said is in cc
@@ -81,6 +90,15 @@ spells_single words (show said) picked is = let other : row_of words ≡ row.Sho
 spells_single words (announce said) picked is = let other : row_of words ≡ row.Announce = announce_row words said is in cc
 spells_single words (paths said) picked is = let other : row_of words ≡ row.Paths = paths_row words said is in cc
 spells_single words (single said) picked is = (said, refl, is)
+spells_single words (generate said) picked is = let other : row_of words ≡ row.Generate = generate_row words said is in cc
+
+spells_generate : (words : List (List ℕ)) (command : Command) → row_of words ≡ row.Generate → Spells words command → (said : Generate) × (command ≡ generate said) × IsGenerate words said
+spells_generate words (walk said) picked is = let other : row_of words ≡ row.Walk = walk_row words said is in cc
+spells_generate words (show said) picked is = let other : row_of words ≡ row.Show = show_row words said is in cc
+spells_generate words (announce said) picked is = let other : row_of words ≡ row.Announce = announce_row words said is in cc
+spells_generate words (paths said) picked is = let other : row_of words ≡ row.Paths = paths_row words said is in cc
+spells_generate words (single said) picked is = let other : row_of words ≡ row.Single = single_row words said is in cc
+spells_generate words (generate said) picked is = (said, refl, is)
 
 -- what the call of one command says, where the words pick its row
 of_command : {Said : Type 0} (Is : List (List ℕ) → Said → Type 0) (ports : Said → List Place) (Does : Said → Bool → Files → (Port → Shown) → (Port → Shown) → Status → Type 0) (Asked : Said → Files → Status → Type 0) (tag : Said → Command) (words : List (List ℕ)) (tells : Bool) (held : Files) (then now : Port → Shown) (answer : Status) → ((command : Command) → Spells words command → (said : Said) × (command ≡ tag said) × Is words said) → ((said : Said) → Is words said → Spells words (tag said)) → ((said : Said) → Does said tells held then now answer → Behaves (ports said) tells held then now answer → Runs (tag said) tells held then now answer) → ((said : Said) (wanted : Status) → Wants (tag said) held wanted → Asked said held wanted) → CommandCall Is ports Does Asked words tells held then now answer → AllCommands words tells held then now answer
@@ -110,6 +128,8 @@ of_row row.Paths words tells held then now answer is call =
     of_command IsPaths paths_ports PathsRuns PathsWants paths words tells held then now answer (λ command spells. spells_paths words command is spells) (λ said spells. spells) (λ said runs behaves. (runs, behaves)) (λ said wanted wants. wants) call
 of_row row.Single words tells held then now answer is call =
     of_command IsSingleWords run_ports SingleRuns SingleWants single words tells held then now answer (λ command spells. spells_single words command is spells) (λ said spells. spells) (λ said runs behaves. (runs, behaves)) (λ said wanted wants. wants) call
+of_row row.Generate words tells held then now answer is call =
+    of_command IsGenerate generate_ports GenerateRuns GenerateWants generate words tells held then now answer (λ command spells. spells_generate words command is spells) (λ said spells. spells) (λ said runs behaves. (runs, behaves)) (λ said wanted wants. wants) call
 of_row row.Unknown words tells held then now answer is call = record {
   words_fault = ((λ refused command spells. unknown_spells_none words command is spells), λ none. call.0);
   runs = λ command spells. absurd (unknown_spells_none words command is spells);

@@ -10,6 +10,7 @@ use Rattle.show_command.specs.ShowCommand.{Show, IsShow, ShowRuns, ShowWants, Sh
 use Rattle.announce_command.specs.AnnounceCommand.{Announce, IsAnnounce, AnnounceRuns, AnnounceWants, AnnounceCall, announce_ports}
 use Rattle.paths_command.specs.PathsCommand.{Paths, IsPaths, PathsRuns, PathsWants, PathsCall, paths_ports}
 use Rattle.single_command.specs.SingleCommand.{RunFiles, IsSingleWords, SingleRuns, SingleWants, SingleCall, run_ports}
+use Rattle.generate_command.specs.GenerateCommand.{Generate, IsGenerate, GenerateRuns, GenerateWants, GenerateCall, generate_ports}
 use Rattle.sfc_program.specs.declared.sfc_calls.Row.{Row}
 use Rattle.sfc_program.specs.declared.sfc_calls.Row.TheVariants as row
 
@@ -20,6 +21,7 @@ pub data Command : Type 0 where
   announce : Announce → Command
   paths : Paths → Command
   single : RunFiles → Command
+  generate : Generate → Command
 
 -- the words spell the command
 abbrev pub Spells : List (List ℕ) → Command → Type 0
@@ -28,6 +30,7 @@ Spells words (show said) = IsShow words said
 Spells words (announce said) = IsAnnounce words said
 Spells words (paths said) = IsPaths words said
 Spells words (single said) = IsSingleWords words said
+Spells words (generate said) = IsGenerate words said
 
 -- what each answer says of what was written, and of the ports
 abbrev pub Runs : Command → Bool → Files → (Port → Shown) → (Port → Shown) → Status → Type 0
@@ -36,6 +39,7 @@ Runs (show said) tells held old new answer = ShowRuns said tells held old new an
 Runs (announce said) tells held old new answer = AnnounceRuns said tells held old new answer × Behaves (announce_ports said) tells held old new answer
 Runs (paths said) tells held old new answer = PathsRuns said tells held old new answer × Behaves (paths_ports said) tells held old new answer
 Runs (single said) tells held old new answer = SingleRuns said tells held old new answer × Behaves (run_ports said) tells held old new answer
+Runs (generate said) tells held old new answer = GenerateRuns said tells held old new answer × Behaves (generate_ports said) tells held old new answer
 
 -- what the files ask for
 abbrev pub Wants : Command → Files → Status → Type 0
@@ -44,6 +48,7 @@ Wants (show said) held answer = ShowWants said held answer
 Wants (announce said) held answer = AnnounceWants said held answer
 Wants (paths said) held answer = PathsWants said held answer
 Wants (single said) held answer = SingleWants said held answer
+Wants (generate said) held answer = GenerateWants said held answer
 
 -- the row of the commands that the first word picks
 abbrev pub row_of : List (List ℕ) → Row
@@ -54,6 +59,7 @@ row_of (word ∷ words) =
     else if bytes_eq word (codes "announce") then row.Announce
     else if bytes_eq word (codes "paths") then row.Paths
     else if bytes_eq word (codes "single") then row.Single
+    else if bytes_eq word (codes "generate") then row.Generate
     else row.Unknown
 
 -- what the call of a row says
@@ -63,4 +69,5 @@ RowCall row.Show words tells held old new answer = ShowCall words tells held old
 RowCall row.Announce words tells held old new answer = AnnounceCall words tells held old new answer
 RowCall row.Paths words tells held old new answer = PathsCall words tells held old new answer
 RowCall row.Single words tells held old new answer = SingleCall words tells held old new answer
+RowCall row.Generate words tells held old new answer = GenerateCall words tells held old new answer
 RowCall row.Unknown words tells held old new answer = (answer ≡ status.Words) × ((port : Port) → new port ≡ old port)

@@ -6,6 +6,7 @@ ghost use Rattle.sfc_program.specs.SfcCalls.{Command, Spells, Runs, Wants, RowCa
 
 use announce_command::announce_call;
 use commands::{Gate, Status, Words};
+use generate_command::generate_call;
 use paths_command::paths_call;
 use sfc_desk::Desk;
 use show_command::show_call;
@@ -21,6 +22,7 @@ pub(crate) enum Row {
     Announce,
     Paths,
     Single,
+    Generate,
     /// No command has these words.
     Unknown,
 }
@@ -47,6 +49,9 @@ fn row_of(words: &Words) -> Row
     if words.word(0) == "single" {
         return Row::Single;
     }
+    if words.word(0) == "generate" {
+        return Row::Generate;
+    }
     Row::Unknown
 }
 
@@ -60,6 +65,7 @@ fn call_row<D: Desk>(alloc: Global, row: Row, words: &Words, desk: &mut D) -> St
         Row::Announce => announce_call(alloc, words, desk),
         Row::Paths => paths_call(alloc, words, desk),
         Row::Single => single_call(alloc, words, desk),
+        Row::Generate => generate_call(alloc, words, desk),
         Row::Unknown => Status::Words,
     }
 }

@@ -1,0 +1,3 @@
+pub mod Summaries
+pub mod GenerateCommand
+pub mod GenerateSteps
