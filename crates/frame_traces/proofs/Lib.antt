@@ -2,3 +2,4 @@
 pub mod CutLemmas
 pub mod HandLemmas
 pub mod TraceLemmas
+pub mod TraceRunLemmas

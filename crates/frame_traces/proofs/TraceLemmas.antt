@@ -110,7 +110,7 @@ walk_goes_on tells at-0 at-1 at-2 held-0 held-1 held-2 out-0 out-1 out-2 u resul
 
 -- ---- frame after frame
 
-zip_once : {A B : Type 0} (R : A → B → Type 0) → ((x : A) (u v : B) → R x u → R x v → u ≡ v) → (xs : List A) (us vs : List B) → AllZip R xs us → AllZip R xs vs → us ≡ vs
+pub zip_once : {A B : Type 0} (R : A → B → Type 0) → ((x : A) (u v : B) → R x u → R x v → u ≡ v) → (xs : List A) (us vs : List B) → AllZip R xs us → AllZip R xs vs → us ≡ vs
 zip_once R one [] [] [] x y = refl
 zip_once R one [] [] (v ∷ vs) x y = absurd y
 zip_once R one [] (u ∷ us) vs x y = absurd x

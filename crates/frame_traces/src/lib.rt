@@ -12,6 +12,7 @@
 //! - `put_traces` forwards the frames of a batch over the table of a runner, in a workspace that keeps packets, and puts these behind
 //!   what an `Output` took and what waits there; after a fault what the port took is a front of them.
 //! - A frame hands over one list (`a_round_traces_one_list`), so that front is one of what every run puts.
+//! - What the rounds of a run hand over is its trace (`IsTrace`, `a_trace_is_what_its_rounds_hand_over`), and there is one (`there_is_one_trace`).
 //! - `TraceOf` is the whole trace: a file header of the input's form, which its caller puts, and these packets.
 //!
 //! A packet is captured up to 262,144 bytes. It takes no memory, and steps no session.
@@ -25,5 +26,8 @@
 mod laws;
 mod traces_put;
 
-pub use laws::{a_frame_has_one_single_walk, a_round_traces_one_list};
+pub use laws::{
+    a_frame_has_one_single_walk, a_round_traces_one_list, a_trace_is_what_its_rounds_hand_over,
+    there_is_one_trace,
+};
 pub use traces_put::put_traces;
