@@ -11,3 +11,12 @@ pub mod SoundLemmas
 pub mod OneSaying
 pub mod RunLemmas
 pub mod SingleRuns
+pub mod VersionLemmas
+pub mod WalkedLemmas
+pub mod ShareLemmas
+pub mod WindowLemmas
+pub mod ClimbLemmas
+pub mod CarryLemmas
+pub mod DealLemmas
+pub mod EachLemmas
+pub mod ThreadLemmas

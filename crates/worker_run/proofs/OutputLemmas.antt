@@ -1,7 +1,6 @@
 -- What the records of a batch put at the egress is what the batch then has.
-use Rattle.std.proofs.Common.{◌≡◌, ℕ, List, [], ◌∷◌, ◌++◌, Option, map, refl, sym, ap, ◌∙◌}
+use Rattle.std.proofs.Common.{◌≡◌, ℕ, List, [], ◌∷◌, ◌++◌, refl, sym, ap, ◌∙◌}
 use Rattle.std.specs.List.{AllZip}
-use Rattle.wire_base.specs.declared.ids.InstanceId.{InstanceId}
 use Rattle.pcap_io.specs.declared.forms.Form.{Form}
 use Rattle.pcap_io.specs.declared.frames.Captured.{Captured}
 use Rattle.pcap_io.specs.Egress.{packet_left, packets_left}
@@ -28,14 +27,14 @@ out_at : (functions : List Function) (form : Form) (frame : Captured) (d : Carri
 out_at functions form frame d left =
     at_end functions form frame d.outcome d.outcome.end ∙ ap (λ (f : Captured). packet_out form (record { frame = f; outcome = d.outcome })) (sym left)
 
-pub outs : (setup : Parts) (changes : List RouteChange) (form : Form) (old new : List Carried) → AllZip (λ c d. Carries setup changes c d) old new
+pub outs : (setup : Parts) (R : Carried → Carried → Type 0) → ((c d : Carried) → R c d → d.frame ≡ frame_left (functions_of setup.instances) c.frame d.outcome) → (form : Form) (old new : List Carried) → AllZip R old new
     → packets_left form (frames_in old) (left_by (functions_of setup.instances) (frames_in old) (records_in new)) ≡ packets_out form new
-outs setup changes form [] [] all = refl
-outs setup changes form [] (d ∷ ds) all = absurd all
-outs setup changes form (c ∷ cs) [] all = absurd all
-outs setup changes form (c ∷ cs) (d ∷ ds) all =
-    ap (λ (l : List ℕ). l ++ packets_left form (frames_in cs) (left_by (functions_of setup.instances) (frames_in cs) (records_in ds))) (out_at (functions_of setup.instances) form c.frame d all.0.left)
-    ∙ ap (λ (l : List ℕ). packet_out form d ++ l) (outs setup changes form cs ds all.1)
+outs setup R left form [] [] all = refl
+outs setup R left form [] (d ∷ ds) all = absurd all
+outs setup R left form (c ∷ cs) [] all = absurd all
+outs setup R left form (c ∷ cs) (d ∷ ds) all =
+    ap (λ (l : List ℕ). l ++ packets_left form (frames_in cs) (left_by (functions_of setup.instances) (frames_in cs) (records_in ds))) (out_at (functions_of setup.instances) form c.frame d (left c d all.0))
+    ∙ ap (λ (l : List ℕ). packet_out form d ++ l) (outs setup R left form cs ds all.1)
 
 pub singles : (setup : Parts) (changes : List RouteChange) (old new : List Carried) → AllZip (λ c d. Carries setup changes c d) old new → AllZip (λ f r. SingleRecord setup changes f r) (frames_in old) (records_in new)
 singles setup changes [] [] all = tt

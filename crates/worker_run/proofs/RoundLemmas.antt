@@ -18,14 +18,14 @@ use Rattle.control_histories.proofs.HeardLemmas.{heard}
 use Rattle.control_histories.proofs.ReplyLemmas.{bytes_behind}
 use Rattle.worker_run.specs.declared.controls.Control.{Control}
 use Rattle.worker_run.specs.declared.runners.Runner.{Runner}
-use Rattle.worker_run.specs.Batches.{Carried, frames_in, records_in}
+use Rattle.worker_run.specs.Batches.{Carried}
 use Rattle.worker_run.specs.Controls.{Publishes, Took}
-use Rattle.worker_run.specs.Runners.{Rounded}
+use Rattle.worker_run.specs.Runners.{Carries, Rounded}
 use Rattle.worker_run.specs.Steps.{Forwards, Ran}
 use Rattle.worker_run.proofs.OutputLemmas.{outs, singles}
 use Rattle.worker_run.proofs.RecordLemmas.{all_carry}
 
-no_more : {A : Type 0} (xs : List A) → length xs ≡ 0 → xs ≡ []
+pub no_more : {A : Type 0} (xs : List A) → length xs ≡ 0 → xs ≡ []
 no_more [] e = refl
 no_more (x ∷ xs) e = absurd (omega (arith, e))
 
@@ -79,5 +79,5 @@ rounded runner history log segments old new replies before table works x y =
         heard = heard runner.control.sessions runner.setup.local runner.setup.peers (history ++ segments) (log ++ y.now) y.publishes.with_peers y.publishes.follows.hears;
         each = singles runner.setup changes old new each;
       };
-      out = λ form. outs runner.setup changes form old new each;
+      out = λ form. outs runner.setup (λ c d. Carries runner.setup changes c d) (λ c d x. x.left) form old new each;
     }

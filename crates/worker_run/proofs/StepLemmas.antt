@@ -25,3 +25,12 @@ peer_there control s head x e =
 pub on_ok : {A E : Type 0} (r : Result A E) (P Q : Type 0) → OnOk r P → (P → Q) → OnOk r Q
 on_ok (Ok a) P Q p f = f p
 on_ok (Err e) P Q p f = p
+
+-- what holds anyway, and what two say
+pub ok_any : {A E : Type 0} (r : Result A E) (P : Type 0) → P → OnOk r P
+ok_any (Ok a) P p = p
+ok_any (Err e) P p = tt
+
+pub on_both : {A E : Type 0} (r : Result A E) (P Q S : Type 0) → OnOk r P → OnOk r Q → (P → Q → S) → OnOk r S
+on_both (Ok a) P Q S p q f = f p q
+on_both (Err e) P Q S p q f = tt

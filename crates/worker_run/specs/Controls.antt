@@ -2,9 +2,11 @@
 use Rattle.std.specs.Prelude.{◌≡◌, ℕ, ◌+◌, ◌<◌, ◌≤◌, ◌^◌, List, [], ◌∷◌, ◌++◌, length, All}
 use Rattle.bgp_session.specs.declared.local_sides.Local.{Local}
 use Rattle.control_files.specs.declared.segments.Segment.{Segment}
+use Rattle.session_machine.specs.declared.groups.Sessions.{Sessions}
 use Rattle.session_machine.specs.Groups.{Entry}
 use Rattle.session_machine.specs.Peers.{AllHold}
 use Rattle.sfc_config.specs.Parts.{Parts}
+use Rattle.sfc_routes.specs.declared.route_changes.RouteChange.{RouteChange}
 use Rattle.sfc_routes.specs.LastWords.{Stands as AreAfter}
 use Rattle.path_selection.specs.Paths.{ServicePath}
 use Rattle.control_histories.specs.Happenings.{Logs}
@@ -29,6 +31,10 @@ pub record Publishes (setup : Parts) (control : Control) (table : List ServicePa
   pub with_peers : AreWith control.sessions setup.local setup.peers
   pub follows : Follows control history log
   pub table_is : TableAfter setup.roster (changes_of log) table
+
+-- for some segments
+abbrev pub PublishesSome : Parts → Control → List ServicePath → Type 0
+PublishesSome setup control table = (history : List Segment) × (log : List Entry) × Publishes setup control table history log
 
 -- ---- conditions
 
@@ -55,6 +61,14 @@ pub record Ready (control : Control) (segments : List Segment) : Type 0 where
   pub room : HasRoomFor control segments
 
 -- ---- steps
+
+-- The session with the segment's peer stepped: these are the changes of its effects, and what it sent comes behind the replies.
+pub record Hearing (sessions : Sessions) (history : List Segment) (log : List Entry) (segment : Segment) (changes : List RouteChange) (before after : List ℕ) : Type 0 where
+  pub now : Entry
+  pub logs : Logs (segment ∷ []) (now ∷ [])
+  pub hears : Hears sessions (history ++ segment ∷ []) (log ++ now ∷ [])
+  pub changes_are : changes ≡ now.effects.changes
+  pub replies : after ≡ before ++ reply_bytes (segment ∷ []) (now ∷ [])
 
 -- the control side took the segments, whose effects come behind the log, and what was sent comes behind the replies
 pub record Took (control : Control) (history : List Segment) (log : List Entry) (segments : List Segment) (before after : List ℕ) : Type 0 where

@@ -6,3 +6,5 @@ pub mod Outputs
 pub mod Controls
 pub mod Runners
 pub mod Steps
+pub mod Publications
+pub mod Shares

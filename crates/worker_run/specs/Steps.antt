@@ -12,8 +12,10 @@ use Rattle.control_histories.specs.Happenings.{Logs}
 use Rattle.control_histories.specs.Logs.{changes_of}
 use Rattle.control_histories.specs.Replies.{reply_bytes}
 use Rattle.worker_run.specs.declared.controls.Control.{Control}
-use Rattle.worker_run.specs.Batches.{Carried, frame_left}
+use Rattle.worker_run.specs.Batches.{Carried, frame_left, records_in}
 use Rattle.worker_run.specs.Controls.{Publishes}
+use Rattle.worker_run.specs.Runners.{RunCarries}
+use Rattle.worker_run.specs.Runs.{WorkersClimb}
 
 -- the record tells a walk of the frame over this table alone, under this version, as worker 0, and the frame is as the walk leaves it
 pub record Forwards (setup : Parts) (version : ℕ) (table : List ServicePath) (old new : Carried) : Type 0 where
@@ -31,3 +33,12 @@ pub record Ran (setup : Parts) (control : Control) (table : List ServicePath) (h
   pub publishes : Publishes setup control table (history ++ segments) (log ++ now)
   pub replies_are : replies ≡ reply_bytes segments now
   pub each : AllZip (Forwards setup (length (changes_of (log ++ now))) table) old new
+
+-- the control side took the segments, and every frame was forwarded by one of so many workers, over the versions of the round
+pub record RanOnThreads (setup : Parts) (workers : ℕ) (control : Control) (table : List ServicePath) (history : List Segment) (log : List Entry) (segments : List Segment) (old new : List Carried) (replies : List ℕ) : Type 0 where
+  pub now : List Entry
+  pub logs : Logs segments now
+  pub publishes : Publishes setup control table (history ++ segments) (log ++ now)
+  pub replies_are : replies ≡ reply_bytes segments now
+  pub each : AllZip (λ c d. RunCarries setup (changes_of (log ++ now)) (length (changes_of log)) (length (changes_of (log ++ now))) workers c d) old new
+  pub climb : WorkersClimb (records_in new)

@@ -45,7 +45,7 @@ fn no_walk() -> Record
 }
 
 impl Slot {
-    fn empty(alloc: Global) -> Slot {
+    pub(crate) fn empty(alloc: Global) -> Slot {
         Slot {
             seconds: 0,
             fraction: 0,

@@ -10,13 +10,18 @@ ghost use Rattle.session_machine.specs.Groups.{Entry};
 ghost use Rattle.session_machine.specs.Peers.{AllHold};
 ghost use Rattle.control_histories.specs.Replies.{reply_to};
 ghost use Rattle.control_files.specs.Segments.{segments_bytes};
-ghost use Rattle.worker_run.specs.Controls.{Follows, FollowsSome, Ready, Took, bytes_in};
+ghost use Rattle.control_histories.specs.Logs.{Hears, changes_of};
+ghost use Rattle.control_histories.specs.Versions.{TableAfter};
+ghost use Rattle.worker_run.specs.Publications.{TookEach, latest};
+ghost use Rattle.worker_run.specs.Controls.{Follows, FollowsSome, Hearing, Ready, Took, bytes_in};
 
+use crate::versions::Versions;
 use control_files::{Segment, SegmentHead};
 use control_histories::{append_reply, step_segment};
+use path_selection::Table;
 use session_machine::{Effects, Sessions};
-use sfc_routes::{RouteChange, RouteList};
-use wire_base::{Bytes, OutOfMemory};
+use sfc_routes::{Roster, RouteChange, RouteList};
+use wire_base::{Bytes, List, OutOfMemory};
 
 /// The sessions with all peers, their routes, and how many changes of routes there were.
 #[derive(Debug, Drop)]
@@ -65,6 +70,36 @@ fn head_of(segment: &Segment) -> SegmentHead
 }
 
 impl Control {
+    /// The session with the segment's peer steps, and what it sends comes behind the replies. The changes of routes that it gives, which
+    /// the routes are still to take, make as many versions.
+    fn hear(
+        &mut self,
+        segment: &Segment,
+        replies: &mut Bytes,
+    ) -> Result<List<RouteChange>, OutOfMemory>
+        requires ready { Ready self.old (segment.now ∷ []) }
+        requires some { FollowsSome self.old }
+        ensures history { (history : Sequence Given) (log : Sequence Entry) → Hears self.old.sessions history log
+            → IfOk result (λ changes. Hearing self.new.sessions history log segment.now changes replies.old replies.new) }
+        ensures changes { IfOk result (λ changes. AllByRecursion IsRouteChange changes) }
+        ensures routes { self.new.routes ≡ self.old.routes }
+        ensures sides { map (λ s. s.side) self.new.sessions.sessions.items ≡ map (λ s. s.side) self.old.sessions.sessions.items }
+        ensures version { IfOk result (λ changes. self.new.version ≡ self.old.version + length changes) }
+        ensures rises { self.old.version ≤ self.new.version }
+        ensures count { (most : ℕ) → AllHold most self.old.sessions.sessions.items
+            → OnOk result (AllHold (most + length segment.now.bytes) self.new.sessions.sessions.items) }
+    {
+        let head = head_of(segment);
+        let Effects { bytes, changes } = step_segment(
+            &mut self.sessions,
+            head,
+            segment.bytes.as_slice(),
+        )?;
+        self.version = version_after(self.version, changes.as_slice().len())?;
+        append_reply(replies, head, bytes.as_slice())?;
+        Ok(changes)
+    }
+
     /// Takes one segment: the session with its peer steps, the routes take the changes that it gives, and what it sends comes
     /// behind the replies.
     fn step(&mut self, segment: &Segment, replies: &mut Bytes) -> Result<(), OutOfMemory>
@@ -77,12 +112,8 @@ impl Control {
         ensures count { (most : ℕ) → AllHold most self.old.sessions.sessions.items
             → OnOk result (AllHold (most + length segment.now.bytes) self.new.sessions.sessions.items) }
     {
-        let head = head_of(segment);
-        let effects = step_segment(&mut self.sessions, head, segment.bytes.as_slice())?;
-        let changes = effects.changes.as_slice();
-        self.version = version_after(self.version, changes.len())?;
-        apply_all(&mut self.routes, changes)?;
-        append_reply(replies, head, effects.bytes.as_slice())
+        let changes = self.hear(segment, replies)?;
+        apply_all(&mut self.routes, changes.as_slice())
     }
 
     /// Takes segments in turn.
@@ -105,6 +136,57 @@ impl Control {
             Some((segment, rest)) => {
                 self.step(segment, replies)?;
                 self.take(rest, replies)
+            }
+        }
+    }
+
+    /// Takes one segment, as `step` does, and makes a version for each change of routes that it gives.
+    fn step_each(
+        &mut self,
+        roster: &Roster,
+        segment: &Segment,
+        replies: &mut Bytes,
+        opening: &Table,
+        versions: &mut Versions,
+    ) -> Result<(), OutOfMemory>
+        requires ready { Ready self.old (segment.now ∷ []) }
+        requires some { FollowsSome self.old }
+        ensures took { (history : Sequence Given) (log : Sequence Entry) → Follows self.old history log
+            → OnOk result (Took self.new history log (segment.now ∷ []) replies.old replies.new) }
+        ensures history { (history : Sequence Given) (log : Sequence Entry) → Follows self.old history log
+            → TableAfter roster.now (changes_of log) (latest opening.now versions.old.last)
+            → OnOk result (TookEach roster.now opening.now self.new history log (segment.now ∷ []) replies.old replies.new versions.old versions.new) }
+        ensures sides { map (λ s. s.side) self.new.sessions.sessions.items ≡ map (λ s. s.side) self.old.sessions.sessions.items }
+        ensures count { (most : ℕ) → AllHold most self.old.sessions.sessions.items
+            → OnOk result (AllHold (most + length segment.now.bytes) self.new.sessions.sessions.items) }
+    {
+        let changes = self.hear(segment, replies)?;
+        versions.add_all(opening, roster, &mut self.routes, changes.as_slice())
+    }
+
+    /// Takes segments in turn, as `take` does, and makes a version for each change of routes that they give.
+    pub(crate) fn take_each(
+        &mut self,
+        roster: &Roster,
+        segments: &[Segment],
+        replies: &mut Bytes,
+        opening: &Table,
+        versions: &mut Versions,
+    ) -> Result<(), OutOfMemory>
+        requires ready { Ready self.old segments.now }
+        requires some { FollowsSome self.old }
+        ensures history { (history : Sequence Given) (log : Sequence Entry) → Follows self.old history log
+            → TableAfter roster.now (changes_of log) (latest opening.now versions.old.last)
+            → OnOk result (TookEach roster.now opening.now self.new history log segments.now replies.old replies.new versions.old versions.new) }
+        ensures sides { map (λ s. s.side) self.new.sessions.sessions.items ≡ map (λ s. s.side) self.old.sessions.sessions.items }
+        ensures count { (most : ℕ) → AllHold most self.old.sessions.sessions.items
+            → OnOk result (AllHold (most + bytes_in segments.now) self.new.sessions.sessions.items) }
+    {
+        match segments.split_first() {
+            None => Ok(()),
+            Some((segment, rest)) => {
+                self.step_each(roster, segment, replies, opening, versions)?;
+                self.take_each(roster, rest, replies, opening, versions)
             }
         }
     }

@@ -14,7 +14,7 @@ use sfc_config::Setup;
 use wire_base::OutOfMemory;
 
 /// Puts in the record of a frame, and the frame as its walk left it.
-fn put(slot: &mut Slot, outcome: Record, work: &Workspace) -> Result<(), OutOfMemory>
+pub(crate) fn put(slot: &mut Slot, outcome: Record, work: &Workspace) -> Result<(), OutOfMemory>
     ensures { OnOk result (slot.new ≡ record {
       frame = record { seconds = slot.old.frame.seconds; fraction = slot.old.frame.fraction; original = work.now.frame.original; bytes = work.now.frame.bytes };
       outcome = outcome;

@@ -14,14 +14,17 @@ ghost use Rattle.worker_run.specs.Steps.{Ran};
 use crate::batches::Batch;
 use crate::controls::Control;
 use crate::forwarding::forward_all;
+use crate::thread_rounds::run_threads;
 use control_files::Segment;
 use control_histories::table_after;
-use forwarder::Workspace;
+use forwarder::{Gate, Workspace};
 use path_selection::Table;
 use session_machine::Sessions;
 use sfc_config::Setup;
 use sfc_routes::{Roster, RouteList};
 use std::alloc::Global;
+use std::sync::Wait;
+use std::thread::Threads;
 use wire_base::{Bytes, List, OutOfMemory};
 
 /// Brings the table to the version of the control side, where that has risen.
@@ -88,12 +91,13 @@ impl Runner {
     ghost use Rattle.std.specs.Prelude.{[], true, OnErr};
     ghost use Rattle.control_histories.specs.Logs.{AreOfPeers};
     ghost use Rattle.worker_run.specs.Controls.{AreShort, HasRoomFor};
-    ghost use Rattle.worker_run.specs.Runners.{IsSound, Rounded, Stands};
+    ghost use Rattle.worker_run.specs.Runners.{IsSound, Rounded, RoundedOnThreads, Stands};
 
     /// A runner before the first segment, for 1 to 16 workers: version 0, which has no path.
     pub fn new(alloc: Global, setup: Setup, workers: u32) -> Result<Runner, OutOfMemory>
         requires { (1 ≤ workers) × (workers ≤ 16) }
         ensures setup { IfOk result (λ runner. runner.setup ≡ setup) }
+        ensures workers { IfOk result (λ runner. runner.workers ≡ workers) }
         ensures history { IfOk result (λ runner. Stands runner [] []) }
         ensures sound { IfOk result (λ runner. IsSound runner) }
         ensures count { IfOk result (λ runner. AllHold 0 runner.control.sessions.sessions.items) }
@@ -148,6 +152,59 @@ impl Runner {
             &mut self.control,
             &mut self.table,
             &mut self.work,
+            batch,
+            segments.as_slice(),
+        ) {
+            Ok(replies) => Ok(replies),
+            Err(fault) => {
+                self.failed = true;
+                Err(fault)
+            }
+        }
+    }
+
+    /// One round on threads: the segments step the sessions, and each change of routes that they give makes a version. Workers forward
+    /// the frames, each in a thread of its own where one can be made, in consecutive shares whose sizes differ by at most 1, while
+    /// the versions are published one by one; the threads end with the round. The gate is told of each lookup and each version.
+    ///
+    /// A worker without a seat forwards over the table that the round opens with. Where a lookup is refused, this frame and the later
+    /// ones of its share are forwarded over the last table, by the same worker. The answer is what the segments are answered, as
+    /// segments of a control file. After want of memory the runner has failed, and the batch has as many frames as before.
+    pub fn round<R: Threads + Wait + Sync, G: Gate>(
+        &mut self,
+        rt: &R,
+        gate: &G,
+        batch: &mut Batch,
+        segments: &List<Segment>,
+    ) -> Result<Bytes, OutOfMemory>
+        requires sound { IsSound self.old }
+        requires workers { (1 ≤ self.old.workers) × (self.old.workers ≤ 16) }
+        requires limits { AreWithinLimits batch.old }
+        requires peers { AreOfPeers self.old.setup.peers segments.now }
+        requires short { AreShort segments.now }
+        requires room { HasRoomFor self.old.control segments.now }
+        ensures history { (history : Sequence Given) (log : Sequence Entry) → Stands self.old history log
+            → IfOk result (λ replies. RoundedOnThreads self.new history log segments.now batch.old batch.new replies) }
+        ensures sound { IsSound self.new }
+        ensures setup { self.new.setup ≡ self.old.setup }
+        ensures workers { self.new.workers ≡ self.old.workers }
+        ensures again { self.old.failed ≡ true → OnOk result ⊥ }
+        ensures failed { OnErr result (self.new.failed ≡ true) }
+        ensures frames { length batch.new ≡ length batch.old }
+        ensures count { (most : ℕ) → AllHold most self.old.control.sessions.sessions.items
+            → OnOk result (AllHold (most + bytes_in segments.now) self.new.control.sessions.sessions.items) }
+    {
+        if self.failed {
+            return Err(OutOfMemory);
+        }
+        match run_threads(
+            rt,
+            self.alloc,
+            &self.setup,
+            gate,
+            self.workers,
+            &mut self.control,
+            &mut self.table,
             batch,
             segments.as_slice(),
         ) {

@@ -1,37 +1,27 @@
--- The session with the peer steps, the routes take its changes, and what it sends is the reply.
-use Rattle.std.proofs.Common.{◌≡◌, ◌+◌, ℕ, List, [], ◌∷◌, ◌++◌, length, ap, refl, subst, ◌∙◌}
-use Rattle.control_files.specs.Segments.{segments_bytes}
-use Rattle.control_files.specs.Steps.{segment_of}
-use Rattle.session_machine.specs.Groups.{entry}
+-- The routes take the changes that were heard.
+use Rattle.std.proofs.Common.{◌+◌, ℕ, List, [], ◌∷◌, ◌++◌, length, ap, sym, subst, ◌∙◌}
 use Rattle.sfc_routes.specs.declared.route_changes.RouteChange.{RouteChange}
 use Rattle.sfc_routes.specs.LastWords.{Stands as AreAfter}
-use Rattle.control_histories.specs.Happenings.{happens}
-use Rattle.control_histories.specs.Logs.{Hears, changes_of}
-use Rattle.control_histories.specs.Replies.{reply_to}
+use Rattle.session_machine.specs.Peers.{AllHold}
+use Rattle.control_histories.specs.Logs.{changes_of}
 use Rattle.worker_run.specs.declared.controls.Control.{Control}
 use Rattle.worker_run.specs.Controls.{Took}
 use Rattle.worker_run.proofs.ControlLemmas.{took_one}
-use Rattle.worker_run.proofs.StepLemmas.{on_ok, peer_there, same_segment}
+use Rattle.worker_run.proofs.StepLemmas.{ok_any, on_ok}
 use Rattle.worker_run.proofs.controls.Control.step.Goals as goal
-
-pub step_segment-requires-clause-peer : goal.step_segment-requires-clause-peer
-step_segment-requires-clause-peer c = peer_there c.args.self.now c.args.segment.now c.head_of-head.result c.requires.ready c.head_of-head.ensures
 
 pub returns-clause-history : goal.returns-clause-history
 returns-clause-history c = λ history log x.
     let s = c.args.segment.now in
-    let head = c.head_of-head.result in
-    let effects = c.in_ok-effects.effects in
-    let changes = c.as_slice-changes.result.now in
+    let changes = c.in_ok-changes.changes in
     let before = c.args.replies.now in
-    let after = c.append_reply.new.out in
-    let new : Control = record { sessions = c.step_segment.new.sessions; routes = c.apply_all.new.routes; version = c.in_ok-self.field-0 } in
-    let hears : Hears new.sessions (history ++ segment_of head s.bytes ∷ []) (log ++ entry head.peer (happens (segment_of head s.bytes)) effects ∷ []) =
-    subst (λ (b : List ℕ). Hears new.sessions (history ++ segment_of head b ∷ []) (log ++ entry head.peer (happens (segment_of head b)) effects ∷ [])) c.as_slice.ensures (c.in_ok-effects.ensures.history history log x.hears) in
-    let routes : AreAfter new.routes (changes_of log ++ effects.changes) =
-    subst (λ (l : List RouteChange). AreAfter new.routes (changes_of log ++ l)) c.as_slice-changes.ensures (c.in_ok-apply_all.ensures (changes_of log) x.routes) in
-    let version : new.version ≡ length (changes_of log) + length effects.changes =
-    c.in_ok-self.ensures ∙ ap (λ (v : ℕ). v + length changes) x.version ∙ ap (λ (l : List RouteChange). length (changes_of log) + length l) c.as_slice-changes.ensures in
-    on_ok c.append_reply.result (after ≡ before ++ segments_bytes (reply_to head.peer head.moment head.position c.as_slice-2.result.now)) (Took new history log (s ∷ []) before after) c.append_reply.ensures.ok
-    (λ replies. took_one new history log s head effects before after (same_segment head s s.bytes c.head_of-head.ensures refl) hears routes version
-    (replies ∙ ap (λ (sent : List ℕ). before ++ segments_bytes (reply_to head.peer head.moment head.position sent)) c.as_slice-2.ensures))
+    let after = c.hear.new.replies in
+    let heard = c.hear.new.self in
+    let new : Control = record heard { routes = c.apply_all.new.routes } in
+    let stand : AreAfter heard.routes (changes_of log) = subst (λ r. AreAfter r (changes_of log)) (sym c.hear.ensures.routes) x.routes in
+    on_ok c.apply_all.result (AreAfter new.routes (changes_of log ++ c.as_slice.result.now)) (Took new history log (s ∷ []) before after) (c.apply_all.ensures (changes_of log) stand)
+    (λ routes. took_one new history log s changes before after (c.in_ok-changes.ensures.history history log x.hears) (subst (λ (l : List RouteChange). AreAfter new.routes (changes_of log ++ l)) c.as_slice.ensures routes)
+    (c.in_ok-changes.ensures.version ∙ ap (λ (v : ℕ). v + length changes) x.version))
+
+pub returns-clause-count : goal.returns-clause-count
+returns-clause-count c = λ most hold. ok_any c.apply_all.result (AllHold (most + length c.args.segment.now.bytes) c.hear.new.self.sessions.sessions.items) (c.in_ok-changes.ensures.count most hold)

@@ -1,0 +1,6 @@
+-- There are as many slots as turns.
+use Rattle.std.proofs.Common.{◌≡◌, length}
+use Rattle.worker_run.proofs.parts.empty_slots.Given as goal
+
+abbrev pub invariant-loop : goal.invariant-loop
+invariant-loop l = length l.slots.items ≡ l.counter
