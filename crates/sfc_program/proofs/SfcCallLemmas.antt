@@ -14,7 +14,9 @@ use Rattle.announce_command.specs.AnnounceCommand.{Announce, IsAnnounce, Announc
 use Rattle.paths_command.specs.PathsCommand.{Paths, IsPaths, PathsRuns, PathsWants, paths_ports}
 use Rattle.single_command.specs.SingleCommand.{RunFiles, IsSingleWords, SingleRuns, SingleWants, run_ports}
 use Rattle.generate_command.specs.GenerateCommand.{Generate, IsGenerate, GenerateRuns, GenerateWants, generate_ports}
-use Rattle.sfc_program.specs.SfcCalls.{Command, walk, show, announce, paths, single, generate, Spells, Runs, Wants, RowCall, row_of}
+use Rattle.from_pcapng_command.specs.FromPcapngCommand.{FromPcapng, IsFromPcapng, FromPcapngRuns, FromPcapngWants, from_pcapng_ports}
+use Rattle.to_pcapng_command.specs.ToPcapngCommand.{ToPcapng, IsToPcapng, ToPcapngRuns, ToPcapngWants, to_pcapng_ports}
+use Rattle.sfc_program.specs.SfcCalls.{Command, walk, show, announce, paths, single, generate, from_pcapng, to_pcapng, Spells, Runs, Wants, RowCall, row_of}
 
 -- the words of a command pick its row
 walk_row : (words : List (List ℕ)) (said : Walk) → IsWalk words said → row_of words ≡ row.Walk
@@ -35,6 +37,12 @@ single_row words said is = ap row_of is.spelled
 generate_row : (words : List (List ℕ)) (said : Generate) → IsGenerate words said → row_of words ≡ row.Generate
 generate_row words said is = ap row_of is.spelled
 
+from_pcapng_row : (words : List (List ℕ)) (said : FromPcapng) → IsFromPcapng words said → row_of words ≡ row.FromPcapng
+from_pcapng_row words said is = ap row_of is.spelled
+
+to_pcapng_row : (words : List (List ℕ)) (said : ToPcapng) → IsToPcapng words said → row_of words ≡ row.ToPcapng
+to_pcapng_row words said is = ap row_of is.spelled
+
 -- what the call of a row says, said of all commands
 pub record AllCommands (words : List (List ℕ)) (tells : Bool) (held : Files) (then now : Port → Shown) (answer : Status) : Type 0 where
   pub words_fault : (answer ≡ status.Words) ↔ ((command : Command) → Spells words command → ⊥)
@@ -50,6 +58,8 @@ unknown_spells_none words (announce said) picked is = let other : row_of words �
 unknown_spells_none words (paths said) picked is = let other : row_of words ≡ row.Paths = paths_row words said is in cc
 unknown_spells_none words (single said) picked is = let other : row_of words ≡ row.Single = single_row words said is in cc
 unknown_spells_none words (generate said) picked is = let other : row_of words ≡ row.Generate = generate_row words said is in cc
+unknown_spells_none words (from_pcapng said) picked is = let other : row_of words ≡ row.FromPcapng = from_pcapng_row words said is in cc
+unknown_spells_none words (to_pcapng said) picked is = let other : row_of words ≡ row.ToPcapng = to_pcapng_row words said is in cc
 
 -- words that pick a row spell that row's command alone
 spells_walk : (words : List (List ℕ)) (command : Command) → row_of words ≡ row.Walk → Spells words command → (said : Walk) × (command ≡ walk said) × IsWalk words said
@@ -59,6 +69,8 @@ spells_walk words (announce said) picked is = let other : row_of words ≡ row.A
 spells_walk words (paths said) picked is = let other : row_of words ≡ row.Paths = paths_row words said is in cc
 spells_walk words (single said) picked is = let other : row_of words ≡ row.Single = single_row words said is in cc
 spells_walk words (generate said) picked is = let other : row_of words ≡ row.Generate = generate_row words said is in cc
+spells_walk words (from_pcapng said) picked is = let other : row_of words ≡ row.FromPcapng = from_pcapng_row words said is in cc
+spells_walk words (to_pcapng said) picked is = let other : row_of words ≡ row.ToPcapng = to_pcapng_row words said is in cc
 
 spells_show : (words : List (List ℕ)) (command : Command) → row_of words ≡ row.Show → Spells words command → (said : Show) × (command ≡ show said) × IsShow words said
 spells_show words (walk said) picked is = let other : row_of words ≡ row.Walk = walk_row words said is in cc
@@ -67,6 +79,8 @@ spells_show words (announce said) picked is = let other : row_of words ≡ row.A
 spells_show words (paths said) picked is = let other : row_of words ≡ row.Paths = paths_row words said is in cc
 spells_show words (single said) picked is = let other : row_of words ≡ row.Single = single_row words said is in cc
 spells_show words (generate said) picked is = let other : row_of words ≡ row.Generate = generate_row words said is in cc
+spells_show words (from_pcapng said) picked is = let other : row_of words ≡ row.FromPcapng = from_pcapng_row words said is in cc
+spells_show words (to_pcapng said) picked is = let other : row_of words ≡ row.ToPcapng = to_pcapng_row words said is in cc
 
 spells_announce : (words : List (List ℕ)) (command : Command) → row_of words ≡ row.Announce → Spells words command → (said : Announce) × (command ≡ announce said) × IsAnnounce words said
 spells_announce words (walk said) picked is = let other : row_of words ≡ row.Walk = walk_row words said is in cc
@@ -75,6 +89,8 @@ spells_announce words (announce said) picked is = (said, refl, is)
 spells_announce words (paths said) picked is = let other : row_of words ≡ row.Paths = paths_row words said is in cc
 spells_announce words (single said) picked is = let other : row_of words ≡ row.Single = single_row words said is in cc
 spells_announce words (generate said) picked is = let other : row_of words ≡ row.Generate = generate_row words said is in cc
+spells_announce words (from_pcapng said) picked is = let other : row_of words ≡ row.FromPcapng = from_pcapng_row words said is in cc
+spells_announce words (to_pcapng said) picked is = let other : row_of words ≡ row.ToPcapng = to_pcapng_row words said is in cc
 
 spells_paths : (words : List (List ℕ)) (command : Command) → row_of words ≡ row.Paths → Spells words command → (said : Paths) × (command ≡ paths said) × IsPaths words said
 spells_paths words (walk said) picked is = let other : row_of words ≡ row.Walk = walk_row words said is in cc
@@ -83,6 +99,8 @@ spells_paths words (announce said) picked is = let other : row_of words ≡ row.
 spells_paths words (paths said) picked is = (said, refl, is)
 spells_paths words (single said) picked is = let other : row_of words ≡ row.Single = single_row words said is in cc
 spells_paths words (generate said) picked is = let other : row_of words ≡ row.Generate = generate_row words said is in cc
+spells_paths words (from_pcapng said) picked is = let other : row_of words ≡ row.FromPcapng = from_pcapng_row words said is in cc
+spells_paths words (to_pcapng said) picked is = let other : row_of words ≡ row.ToPcapng = to_pcapng_row words said is in cc
 
 spells_single : (words : List (List ℕ)) (command : Command) → row_of words ≡ row.Single → Spells words command → (said : RunFiles) × (command ≡ single said) × IsSingleWords words said
 spells_single words (walk said) picked is = let other : row_of words ≡ row.Walk = walk_row words said is in cc
@@ -91,6 +109,8 @@ spells_single words (announce said) picked is = let other : row_of words ≡ row
 spells_single words (paths said) picked is = let other : row_of words ≡ row.Paths = paths_row words said is in cc
 spells_single words (single said) picked is = (said, refl, is)
 spells_single words (generate said) picked is = let other : row_of words ≡ row.Generate = generate_row words said is in cc
+spells_single words (from_pcapng said) picked is = let other : row_of words ≡ row.FromPcapng = from_pcapng_row words said is in cc
+spells_single words (to_pcapng said) picked is = let other : row_of words ≡ row.ToPcapng = to_pcapng_row words said is in cc
 
 spells_generate : (words : List (List ℕ)) (command : Command) → row_of words ≡ row.Generate → Spells words command → (said : Generate) × (command ≡ generate said) × IsGenerate words said
 spells_generate words (walk said) picked is = let other : row_of words ≡ row.Walk = walk_row words said is in cc
@@ -99,6 +119,28 @@ spells_generate words (announce said) picked is = let other : row_of words ≡ r
 spells_generate words (paths said) picked is = let other : row_of words ≡ row.Paths = paths_row words said is in cc
 spells_generate words (single said) picked is = let other : row_of words ≡ row.Single = single_row words said is in cc
 spells_generate words (generate said) picked is = (said, refl, is)
+spells_generate words (from_pcapng said) picked is = let other : row_of words ≡ row.FromPcapng = from_pcapng_row words said is in cc
+spells_generate words (to_pcapng said) picked is = let other : row_of words ≡ row.ToPcapng = to_pcapng_row words said is in cc
+
+spells_from_pcapng : (words : List (List ℕ)) (command : Command) → row_of words ≡ row.FromPcapng → Spells words command → (said : FromPcapng) × (command ≡ from_pcapng said) × IsFromPcapng words said
+spells_from_pcapng words (walk said) picked is = let other : row_of words ≡ row.Walk = walk_row words said is in cc
+spells_from_pcapng words (show said) picked is = let other : row_of words ≡ row.Show = show_row words said is in cc
+spells_from_pcapng words (announce said) picked is = let other : row_of words ≡ row.Announce = announce_row words said is in cc
+spells_from_pcapng words (paths said) picked is = let other : row_of words ≡ row.Paths = paths_row words said is in cc
+spells_from_pcapng words (single said) picked is = let other : row_of words ≡ row.Single = single_row words said is in cc
+spells_from_pcapng words (generate said) picked is = let other : row_of words ≡ row.Generate = generate_row words said is in cc
+spells_from_pcapng words (from_pcapng said) picked is = (said, refl, is)
+spells_from_pcapng words (to_pcapng said) picked is = let other : row_of words ≡ row.ToPcapng = to_pcapng_row words said is in cc
+
+spells_to_pcapng : (words : List (List ℕ)) (command : Command) → row_of words ≡ row.ToPcapng → Spells words command → (said : ToPcapng) × (command ≡ to_pcapng said) × IsToPcapng words said
+spells_to_pcapng words (walk said) picked is = let other : row_of words ≡ row.Walk = walk_row words said is in cc
+spells_to_pcapng words (show said) picked is = let other : row_of words ≡ row.Show = show_row words said is in cc
+spells_to_pcapng words (announce said) picked is = let other : row_of words ≡ row.Announce = announce_row words said is in cc
+spells_to_pcapng words (paths said) picked is = let other : row_of words ≡ row.Paths = paths_row words said is in cc
+spells_to_pcapng words (single said) picked is = let other : row_of words ≡ row.Single = single_row words said is in cc
+spells_to_pcapng words (generate said) picked is = let other : row_of words ≡ row.Generate = generate_row words said is in cc
+spells_to_pcapng words (from_pcapng said) picked is = let other : row_of words ≡ row.FromPcapng = from_pcapng_row words said is in cc
+spells_to_pcapng words (to_pcapng said) picked is = (said, refl, is)
 
 -- what the call of one command says, where the words pick its row
 of_command : {Said : Type 0} (Is : List (List ℕ) → Said → Type 0) (ports : Said → List Place) (Does : Said → Bool → Files → (Port → Shown) → (Port → Shown) → Status → Type 0) (Asked : Said → Files → Status → Type 0) (tag : Said → Command) (words : List (List ℕ)) (tells : Bool) (held : Files) (then now : Port → Shown) (answer : Status) → ((command : Command) → Spells words command → (said : Said) × (command ≡ tag said) × Is words said) → ((said : Said) → Is words said → Spells words (tag said)) → ((said : Said) → Does said tells held then now answer → Behaves (ports said) tells held then now answer → Runs (tag said) tells held then now answer) → ((said : Said) (wanted : Status) → Wants (tag said) held wanted → Asked said held wanted) → CommandCall Is ports Does Asked words tells held then now answer → AllCommands words tells held then now answer
@@ -130,6 +172,10 @@ of_row row.Single words tells held then now answer is call =
     of_command IsSingleWords run_ports SingleRuns SingleWants single words tells held then now answer (λ command spells. spells_single words command is spells) (λ said spells. spells) (λ said runs behaves. (runs, behaves)) (λ said wanted wants. wants) call
 of_row row.Generate words tells held then now answer is call =
     of_command IsGenerate generate_ports GenerateRuns GenerateWants generate words tells held then now answer (λ command spells. spells_generate words command is spells) (λ said spells. spells) (λ said runs behaves. (runs, behaves)) (λ said wanted wants. wants) call
+of_row row.FromPcapng words tells held then now answer is call =
+    of_command IsFromPcapng from_pcapng_ports FromPcapngRuns FromPcapngWants from_pcapng words tells held then now answer (λ command spells. spells_from_pcapng words command is spells) (λ said spells. spells) (λ said runs behaves. (runs, behaves)) (λ said wanted wants. wants) call
+of_row row.ToPcapng words tells held then now answer is call =
+    of_command IsToPcapng to_pcapng_ports ToPcapngRuns ToPcapngWants to_pcapng words tells held then now answer (λ command spells. spells_to_pcapng words command is spells) (λ said spells. spells) (λ said runs behaves. (runs, behaves)) (λ said wanted wants. wants) call
 of_row row.Unknown words tells held then now answer is call = record {
   words_fault = ((λ refused command spells. unknown_spells_none words command is spells), λ none. call.0);
   runs = λ command spells. absurd (unknown_spells_none words command is spells);

@@ -11,6 +11,8 @@ use Rattle.announce_command.specs.AnnounceCommand.{Announce, IsAnnounce, Announc
 use Rattle.paths_command.specs.PathsCommand.{Paths, IsPaths, PathsRuns, PathsWants, PathsCall, paths_ports}
 use Rattle.single_command.specs.SingleCommand.{RunFiles, IsSingleWords, SingleRuns, SingleWants, SingleCall, run_ports}
 use Rattle.generate_command.specs.GenerateCommand.{Generate, IsGenerate, GenerateRuns, GenerateWants, GenerateCall, generate_ports}
+use Rattle.from_pcapng_command.specs.FromPcapngCommand.{FromPcapng, IsFromPcapng, FromPcapngRuns, FromPcapngWants, FromPcapngCall, from_pcapng_ports}
+use Rattle.to_pcapng_command.specs.ToPcapngCommand.{ToPcapng, IsToPcapng, ToPcapngRuns, ToPcapngWants, ToPcapngCall, to_pcapng_ports}
 use Rattle.sfc_program.specs.declared.sfc_calls.Row.{Row}
 use Rattle.sfc_program.specs.declared.sfc_calls.Row.TheVariants as row
 
@@ -22,6 +24,8 @@ pub data Command : Type 0 where
   paths : Paths → Command
   single : RunFiles → Command
   generate : Generate → Command
+  from_pcapng : FromPcapng → Command
+  to_pcapng : ToPcapng → Command
 
 -- the words spell the command
 abbrev pub Spells : List (List ℕ) → Command → Type 0
@@ -31,6 +35,8 @@ Spells words (announce said) = IsAnnounce words said
 Spells words (paths said) = IsPaths words said
 Spells words (single said) = IsSingleWords words said
 Spells words (generate said) = IsGenerate words said
+Spells words (from_pcapng said) = IsFromPcapng words said
+Spells words (to_pcapng said) = IsToPcapng words said
 
 -- what each answer says of what was written, and of the ports
 abbrev pub Runs : Command → Bool → Files → (Port → Shown) → (Port → Shown) → Status → Type 0
@@ -40,6 +46,8 @@ Runs (announce said) tells held old new answer = AnnounceRuns said tells held ol
 Runs (paths said) tells held old new answer = PathsRuns said tells held old new answer × Behaves (paths_ports said) tells held old new answer
 Runs (single said) tells held old new answer = SingleRuns said tells held old new answer × Behaves (run_ports said) tells held old new answer
 Runs (generate said) tells held old new answer = GenerateRuns said tells held old new answer × Behaves (generate_ports said) tells held old new answer
+Runs (from_pcapng said) tells held old new answer = FromPcapngRuns said tells held old new answer × Behaves (from_pcapng_ports said) tells held old new answer
+Runs (to_pcapng said) tells held old new answer = ToPcapngRuns said tells held old new answer × Behaves (to_pcapng_ports said) tells held old new answer
 
 -- what the files ask for
 abbrev pub Wants : Command → Files → Status → Type 0
@@ -49,6 +57,8 @@ Wants (announce said) held answer = AnnounceWants said held answer
 Wants (paths said) held answer = PathsWants said held answer
 Wants (single said) held answer = SingleWants said held answer
 Wants (generate said) held answer = GenerateWants said held answer
+Wants (from_pcapng said) held answer = FromPcapngWants said held answer
+Wants (to_pcapng said) held answer = ToPcapngWants said held answer
 
 -- the row of the commands that the first word picks
 abbrev pub row_of : List (List ℕ) → Row
@@ -60,6 +70,8 @@ row_of (word ∷ words) =
     else if bytes_eq word (codes "paths") then row.Paths
     else if bytes_eq word (codes "single") then row.Single
     else if bytes_eq word (codes "generate") then row.Generate
+    else if bytes_eq word (codes "from-pcapng") then row.FromPcapng
+    else if bytes_eq word (codes "to-pcapng") then row.ToPcapng
     else row.Unknown
 
 -- what the call of a row says
@@ -70,4 +82,6 @@ RowCall row.Announce words tells held old new answer = AnnounceCall words tells 
 RowCall row.Paths words tells held old new answer = PathsCall words tells held old new answer
 RowCall row.Single words tells held old new answer = SingleCall words tells held old new answer
 RowCall row.Generate words tells held old new answer = GenerateCall words tells held old new answer
+RowCall row.FromPcapng words tells held old new answer = FromPcapngCall words tells held old new answer
+RowCall row.ToPcapng words tells held old new answer = ToPcapngCall words tells held old new answer
 RowCall row.Unknown words tells held old new answer = (answer ≡ status.Words) × ((port : Port) → new port ≡ old port)

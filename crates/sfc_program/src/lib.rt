@@ -17,8 +17,8 @@
 //!   port is touched. Every other answer has its cause and says what was written and what became of each port
 //!   (`Runs`), and what the files ask for (`Wants`) is the answer where the desk tells, no call failed and memory was
 //!   there.
-//! - `walk_call`, `show_call`, `announce_call`, `paths_call`, `single_call` and `generate_call` are the commands by themselves, each from
-//!   its own crate.
+//! - `walk_call`, `show_call`, `announce_call`, `paths_call`, `single_call`, `generate_call`, `from_pcapng_call` and `to_pcapng_call` are the
+//!   commands by themselves, each from its own crate.
 //! - `status_line` is the line of a status.
 //!
 //! Nothing here says what a real file holds, or that memory is there.
@@ -37,9 +37,11 @@ pub use announce_command::announce_call;
 pub use commands::{
     CaptureReason, ControlReason, Gate, NgReason, OpenGate, SetupReason, Status, Words, status_line,
 };
+pub use from_pcapng_command::from_pcapng_call;
 pub use generate_command::generate_call;
 pub use paths_command::paths_call;
 pub use sfc_calls::sfc_call;
 pub use show_command::show_call;
 pub use single_command::single_call;
+pub use to_pcapng_command::to_pcapng_call;
 pub use walk_command::walk_call;

@@ -6,12 +6,14 @@ ghost use Rattle.sfc_program.specs.SfcCalls.{Command, Spells, Runs, Wants, RowCa
 
 use announce_command::announce_call;
 use commands::{Gate, Status, Words};
+use from_pcapng_command::from_pcapng_call;
 use generate_command::generate_call;
 use paths_command::paths_call;
 use sfc_desk::Desk;
 use show_command::show_call;
 use single_command::single_call;
 use std::alloc::Global;
+use to_pcapng_command::to_pcapng_call;
 use walk_command::walk_call;
 
 /// The commands, by their first words.
@@ -23,6 +25,8 @@ pub(crate) enum Row {
     Paths,
     Single,
     Generate,
+    FromPcapng,
+    ToPcapng,
     /// No command has these words.
     Unknown,
 }
@@ -52,6 +56,12 @@ fn row_of(words: &Words) -> Row
     if words.word(0) == "generate" {
         return Row::Generate;
     }
+    if words.word(0) == "from-pcapng" {
+        return Row::FromPcapng;
+    }
+    if words.word(0) == "to-pcapng" {
+        return Row::ToPcapng;
+    }
     Row::Unknown
 }
 
@@ -66,6 +76,8 @@ fn call_row<D: Desk>(alloc: Global, row: Row, words: &Words, desk: &mut D) -> St
         Row::Paths => paths_call(alloc, words, desk),
         Row::Single => single_call(alloc, words, desk),
         Row::Generate => generate_call(alloc, words, desk),
+        Row::FromPcapng => from_pcapng_call(alloc, words, desk),
+        Row::ToPcapng => to_pcapng_call(alloc, words, desk),
         Row::Unknown => Status::Words,
     }
 }

@@ -1,0 +1,2 @@
+pub mod FromPcapngCommand
+pub mod FromPcapngSteps

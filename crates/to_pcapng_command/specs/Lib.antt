@@ -1,0 +1,2 @@
+pub mod ToPcapngCommand
+pub mod ToPcapngSteps
