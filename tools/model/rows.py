@@ -1,4 +1,4 @@
-"""Rows of the commands `single` and `generate` for crates/command_rows, and what each must print."""
+"""Rows of the commands `single` and `generate`, and of both for pcapng files, for crates/command_rows, and what each must print."""
 import pathlib
 import re
 
@@ -8,6 +8,7 @@ import checks
 import controls
 import example
 import inputs
+import pcapngs
 import runs
 import setups
 
@@ -306,6 +307,6 @@ def generated(rows):
 
 def all_rows():
     rows = Rows()
-    for part in (story, chain, positions, reasons, empty, cuts, both_bad, groups, peers, cuts_of_the_chain, hostile, failing_calls, streams, words, generated):
+    for part in (story, chain, positions, reasons, empty, cuts, both_bad, groups, peers, cuts_of_the_chain, hostile, failing_calls, streams, words, generated, pcapngs.converted):
         part(rows)
     return rows
