@@ -79,7 +79,7 @@ fn ng_words(reason: NgReason) -> &'static str {
 /// Why a capture is refused, and what can be done.
 fn refused_words(reason: CaptureReason) -> &'static str {
     match reason {
-        CaptureReason::Magic => "it is no pcap file; editcap -F pcap writes one of a pcapng file",
+        CaptureReason::Magic => "it is no pcap file; from-pcapng makes one of a pcapng file",
         CaptureReason::Version =>
             "it is of another version than 2.4; editcap -F pcap writes one of 2.4",
         CaptureReason::Link => "its link type is not Ethernet",
