@@ -23,7 +23,7 @@ use Rattle.worker_run.specs.Controls.{HasRoomFor, bytes_in}
 use Rattle.worker_run.specs.Rounds.{SaysSingle}
 use Rattle.worker_run.specs.Runners.{Carries, Stands}
 use Rattle.worker_run.specs.Runs.{single_says}
-use Rattle.single_command.proofs.TakenLemmas.{bytes_more}
+use Rattle.file_runs.proofs.TakenLemmas.{bytes_more}
 use Rattle.generate_command.specs.declared.counted_runs.CountedRun.{CountedRun}
 use Rattle.generate_command.specs.declared.memory_rounds.RoundSize.{RoundSize}
 use Rattle.generate_command.specs.declared.summaries.Summary.{Summary}

@@ -17,7 +17,7 @@ use Rattle.control_histories.specs.Logs.{AreOfPeers, Heard}
 use Rattle.worker_run.specs.Controls.{bytes_in}
 use Rattle.worker_run.specs.Runners.{Stands}
 use Rattle.worker_run.specs.Runs.{IsSingle, single_says}
-use Rattle.single_command.proofs.AlongLemmas.{heard_by}
+use Rattle.file_runs.proofs.AlongLemmas.{heard_by}
 use Rattle.generated_inputs.specs.Inputs.{IsGenerated}
 use Rattle.generated_inputs.proofs.InputLemmas.{MayRun}
 use Rattle.generate_command.specs.declared.counted_runs.CountedRun.{CountedRun}

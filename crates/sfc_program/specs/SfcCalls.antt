@@ -9,7 +9,8 @@ use Rattle.walk_command.specs.WalkCommand.{Walk, IsWalk, WalkRuns, WalkWants, Wa
 use Rattle.show_command.specs.ShowCommand.{Show, IsShow, ShowRuns, ShowWants, ShowCall, show_ports}
 use Rattle.announce_command.specs.AnnounceCommand.{Announce, IsAnnounce, AnnounceRuns, AnnounceWants, AnnounceCall, announce_ports}
 use Rattle.paths_command.specs.PathsCommand.{Paths, IsPaths, PathsRuns, PathsWants, PathsCall, paths_ports}
-use Rattle.single_command.specs.SingleCommand.{RunFiles, IsSingleWords, SingleRuns, SingleWants, SingleCall, run_ports}
+use Rattle.file_runs.specs.FileRuns.{RunFiles, run_ports}
+use Rattle.single_command.specs.SingleCommand.{IsSingleWords, SingleRuns, SingleWants, SingleCall}
 use Rattle.generate_command.specs.GenerateCommand.{Generate, IsGenerate, GenerateRuns, GenerateWants, GenerateCall, generate_ports}
 use Rattle.from_pcapng_command.specs.FromPcapngCommand.{FromPcapng, IsFromPcapng, FromPcapngRuns, FromPcapngWants, FromPcapngCall, from_pcapng_ports}
 use Rattle.to_pcapng_command.specs.ToPcapngCommand.{ToPcapng, IsToPcapng, ToPcapngRuns, ToPcapngWants, ToPcapngCall, to_pcapng_ports}

@@ -1,3 +1,1 @@
-pub mod RunTexts
 pub mod SingleCommand
-pub mod SingleSteps

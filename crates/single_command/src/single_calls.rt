@@ -1,17 +1,18 @@
 ghost use Rattle.std.specs.Prelude.{◌≡◌};
 ghost use Rattle.commands.specs.Commands.{Behaves};
-ghost use Rattle.single_command.specs.SingleCommand.{SingleCall, SingleRuns, run_ports};
-ghost use Rattle.single_command.specs.SingleSteps.{files_of};
+ghost use Rattle.file_runs.specs.FileRuns.{run_ports};
+ghost use Rattle.file_runs.specs.RunSteps.{files_of};
+ghost use Rattle.single_command.specs.SingleCommand.{SingleCall, SingleRuns};
 
-use crate::run_openings::open_files;
-use crate::run_words::{RunWords, single_words};
 use crate::single_streams::single_stream;
+use crate::single_words::single_words;
 use commands::{Status, Words};
 use control_histories::segments_have_one_log;
+use file_runs::{RunWords, open_files};
 use setup_inputs::read_setup;
 use sfc_desk::Desk;
 use std::alloc::Global;
-use worker_run::a_round_says_one_list;
+use worker_run::{a_round_says_one_list, a_single_run_is_what_its_rounds_say};
 
 /// What `single` does where its words are said.
 fn run_single<D: Desk>(alloc: Global, desk: &mut D, said: &RunWords<'_>) -> Status
@@ -20,6 +21,7 @@ fn run_single<D: Desk>(alloc: Global, desk: &mut D, said: &RunWords<'_>) -> Stat
 {
     segments_have_one_log();
     a_round_says_one_list();
+    a_single_run_is_what_its_rounds_say();
     let setup = match read_setup(alloc, desk, said.setup) {
         Ok(setup) => setup,
         Err(status) => return status,

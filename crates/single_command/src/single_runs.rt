@@ -1,6 +1,6 @@
-//! The run on one thread, round by round.
+//! The rounds of a run on one thread.
 
-ghost use Rattle.std.specs.Prelude.{◌≡◌, ◌+◌, ◌<◌, ◌≤◌, ◌^◌, ℕ, true, List as Sequence, Option, None, IfOk, IfErr, OnOk, IfSome};
+ghost use Rattle.std.specs.Prelude.{◌≡◌, ◌+◌, ◌<◌, ◌≤◌, ◌^◌, ℕ, List as Sequence, None, IfOk, IfErr, OnOk, IfSome};
 ghost use Rattle.sfc_desk.specs.declared.ports.Port.{Port as DeskPort};
 ghost use Rattle.sfc_desk.specs.Desks.{Shown};
 ghost use Rattle.control_files.specs.declared.segments.Segment.{Segment as Given};
@@ -13,27 +13,24 @@ ghost use Rattle.round_inputs.specs.Taking.{taken_by};
 ghost use Rattle.worker_run.specs.Batches.{AreWithinLimits};
 ghost use Rattle.worker_run.specs.Controls.{AreShort, HasRoomFor, bytes_in};
 ghost use Rattle.worker_run.specs.Runners.{IsSound, Stands};
-ghost use Rattle.single_command.specs.SingleSteps.{Along, AreOpen, HaltSays, IsOutput, NeverLong, Over, RoundPuts, Taken, WritesOutputs};
+ghost use Rattle.worker_run.specs.Runs.{single_says};
+ghost use Rattle.file_runs.specs.RunSteps.{Along, AreOpen, HaltSays, IsOutput, NeverLong, Over, RoundPuts, Taken, WritesOutputs};
 
-use crate::round_frames::RoundFrames;
-use crate::run_outputs::RunOutputs;
 use control_files::Segment;
+use file_runs::{FileRun, RoundFrames, RunOutputs, RunWord, take_next};
 use pcap_io::Form;
-use round_inputs::{Halt, RoundInputs, take_round};
+use round_inputs::Halt;
 use rounds::RunEnd;
 use sfc_desk::Desk;
 use wire_base::List;
 use worker_run::Runner;
 
-/// A run between two rounds: the form of the capture, both inputs, the runner, the frames and the segments of a round, and the outputs.
+/// What a round says on one thread.
 #[derive(Debug, Drop)]
-pub(crate) struct SingleRun {
-    pub(crate) form: Option<Form>,
-    pub(crate) inputs: RoundInputs,
-    pub(crate) runner: Runner,
-    pub(crate) frames: RoundFrames,
-    pub(crate) group: List<Segment>,
-    pub(crate) outputs: RunOutputs,
+pub struct OneThread;
+
+impl RunWord for OneThread {
+    ghost says = { λ setup workers. single_says setup };
 }
 
 /// Runs a round on one thread, and puts what it comes to.
@@ -54,7 +51,7 @@ fn run_round<D: Desk>(
     requires room { HasRoomFor runner.old.control group.now }
     requires ready { AreOpen (D.at desk.old) outputs.old }
     ensures round { (history : Sequence Given) (log : Sequence Entry) → Stands runner.old history log
-        → RoundPuts D.tells (D.at desk.old) (D.at desk.new) outputs.old outputs.new runner.new form place history log group.now frames.old.batch frames.new.batch result }
+        → RoundPuts (single_says runner.new.setup) D.tells (D.at desk.old) (D.at desk.new) outputs.old outputs.new runner.new form place history log group.now frames.old.batch frames.new.batch result }
     ensures setup { runner.new.setup ≡ runner.old.setup }
     ensures hold { (most : ℕ) → AllHold most runner.old.control.sessions.sessions.items
         → OnOk result (AllHold (most + bytes_in group.now) runner.new.control.sessions.sessions.items) }
@@ -78,30 +75,13 @@ fn run_round<D: Desk>(
     )
 }
 
-/// Takes the next round off the inputs, or tells how the run ends.
-fn take_next<D: Desk>(desk: &mut D, run: &mut SingleRun) -> Result<Option<RunEnd>, Halt>
-    requires { (setup : Parts) × (then : DeskPort → Shown) × Along setup D.tells then (D.at desk.old) run.old }
-    ensures taken { (setup : Parts) (then : DeskPort → Shown) → Along setup D.tells then (D.at desk.old) run.old
-        → IfOk result (λ end. end ≡ None → Taken setup D.tells then (D.at desk.new) run.new run.old.inputs.place) }
-    ensures over { (setup : Parts) (then : DeskPort → Shown) → Along setup D.tells then (D.at desk.old) run.old
-        → IfOk result (λ end. IfSome end (Over setup D.tells then (D.at desk.new) run.new)) }
-    ensures halts { (setup : Parts) (then : DeskPort → Shown) → Along setup D.tells then (D.at desk.old) run.old
-        → IfErr result (HaltSays setup D.tells then (D.at desk.new)) }
-    ensures rises { IfOk result (λ end. end ≡ None → taken_by run.old.inputs < taken_by run.new.inputs) }
-    ensures most { IfOk result (λ end. end ≡ None → taken_by run.new.inputs ≤ 2 ^ 41) }
-{
-    run.frames.batch.clear();
-    run.group.clear();
-    take_round(desk, &mut run.inputs, &mut run.frames, &mut run.group)
-}
-
 /// Runs the round that was taken, whose first frame has this number.
-fn run_taken<D: Desk>(desk: &mut D, run: &mut SingleRun, place: u64) -> Result<(), Halt>
-    requires { (setup : Parts) × (then : DeskPort → Shown) × Taken setup D.tells then (D.at desk.old) run.old place }
-    ensures along { (setup : Parts) (then : DeskPort → Shown) → Taken setup D.tells then (D.at desk.old) run.old place
-        → OnOk result (Along setup D.tells then (D.at desk.new) run.new) }
-    ensures halts { (setup : Parts) (then : DeskPort → Shown) → Taken setup D.tells then (D.at desk.old) run.old place
-        → IfErr result (HaltSays setup D.tells then (D.at desk.new)) }
+fn run_taken<D: Desk>(desk: &mut D, run: &mut FileRun, place: u64) -> Result<(), Halt>
+    requires { (setup : Parts) × (then : DeskPort → Shown) × Taken (single_says setup) setup D.tells then (D.at desk.old) run.old place }
+    ensures along { (setup : Parts) (then : DeskPort → Shown) → Taken (single_says setup) setup D.tells then (D.at desk.old) run.old place
+        → OnOk result (Along (single_says setup) setup D.tells then (D.at desk.new) run.new) }
+    ensures halts { (setup : Parts) (then : DeskPort → Shown) → Taken (single_says setup) setup D.tells then (D.at desk.old) run.old place
+        → IfErr result (HaltSays (single_says setup) setup D.tells then (D.at desk.new)) }
     ensures inputs { run.new.inputs ≡ run.old.inputs }
 {
     run_round(
@@ -116,19 +96,19 @@ fn run_taken<D: Desk>(desk: &mut D, run: &mut SingleRun, place: u64) -> Result<(
 }
 
 /// Takes and runs the next round, or tells how the run ends.
-fn next_round<D: Desk>(desk: &mut D, run: &mut SingleRun) -> Result<Option<RunEnd>, Halt>
-    requires { (setup : Parts) × (then : DeskPort → Shown) × Along setup D.tells then (D.at desk.old) run.old }
-    ensures along { (setup : Parts) (then : DeskPort → Shown) → Along setup D.tells then (D.at desk.old) run.old
-        → IfOk result (λ end. end ≡ None → Along setup D.tells then (D.at desk.new) run.new) }
-    ensures over { (setup : Parts) (then : DeskPort → Shown) → Along setup D.tells then (D.at desk.old) run.old
-        → IfOk result (λ end. IfSome end (Over setup D.tells then (D.at desk.new) run.new)) }
-    ensures halts { (setup : Parts) (then : DeskPort → Shown) → Along setup D.tells then (D.at desk.old) run.old
-        → IfErr result (HaltSays setup D.tells then (D.at desk.new)) }
+fn next_round<D: Desk>(desk: &mut D, run: &mut FileRun) -> Result<Option<RunEnd>, Halt>
+    requires { (setup : Parts) × (then : DeskPort → Shown) × Along (single_says setup) setup D.tells then (D.at desk.old) run.old }
+    ensures along { (setup : Parts) (then : DeskPort → Shown) → Along (single_says setup) setup D.tells then (D.at desk.old) run.old
+        → IfOk result (λ end. end ≡ None → Along (single_says setup) setup D.tells then (D.at desk.new) run.new) }
+    ensures over { (setup : Parts) (then : DeskPort → Shown) → Along (single_says setup) setup D.tells then (D.at desk.old) run.old
+        → IfOk result (λ end. IfSome end (Over (single_says setup) setup D.tells then (D.at desk.new) run.new)) }
+    ensures halts { (setup : Parts) (then : DeskPort → Shown) → Along (single_says setup) setup D.tells then (D.at desk.old) run.old
+        → IfErr result (HaltSays (single_says setup) setup D.tells then (D.at desk.new)) }
     ensures rises { IfOk result (λ end. end ≡ None → taken_by run.old.inputs < taken_by run.new.inputs) }
     ensures most { IfOk result (λ end. end ≡ None → taken_by run.new.inputs ≤ 2 ^ 41) }
 {
     let place = run.inputs.place();
-    match take_next(desk, run) {
+    match take_next(desk, run, &OneThread) {
         Ok(None) => match run_taken(desk, run, place) {
             Ok(()) => Ok(None),
             Err(halt) => Err(halt),
@@ -139,12 +119,12 @@ fn next_round<D: Desk>(desk: &mut D, run: &mut SingleRun) -> Result<Option<RunEn
 }
 
 /// Runs all rounds, and tells how the run ends.
-pub(crate) fn run_rounds<D: Desk>(desk: &mut D, run: &mut SingleRun) -> Result<RunEnd, Halt>
-    requires { (setup : Parts) × (then : DeskPort → Shown) × Along setup D.tells then (D.at desk.old) run.old }
-    ensures over { (setup : Parts) (then : DeskPort → Shown) → Along setup D.tells then (D.at desk.old) run.old
-        → IfOk result (Over setup D.tells then (D.at desk.new) run.new) }
-    ensures halts { (setup : Parts) (then : DeskPort → Shown) → Along setup D.tells then (D.at desk.old) run.old
-        → IfErr result (HaltSays setup D.tells then (D.at desk.new)) }
+pub(crate) fn run_rounds<D: Desk>(desk: &mut D, run: &mut FileRun) -> Result<RunEnd, Halt>
+    requires { (setup : Parts) × (then : DeskPort → Shown) × Along (single_says setup) setup D.tells then (D.at desk.old) run.old }
+    ensures over { (setup : Parts) (then : DeskPort → Shown) → Along (single_says setup) setup D.tells then (D.at desk.old) run.old
+        → IfOk result (Over (single_says setup) setup D.tells then (D.at desk.new) run.new) }
+    ensures halts { (setup : Parts) (then : DeskPort → Shown) → Along (single_says setup) setup D.tells then (D.at desk.old) run.old
+        → IfErr result (HaltSays (single_says setup) setup D.tells then (D.at desk.new)) }
 {
     'rounds: loop {
         match next_round(desk, run) {

@@ -1,12 +1,17 @@
 -- There is no setup, or a port behind it was not bound, or the run was done.
-use Rattle.std.proofs.Common.{◌≡◌, ◌≢◌, inl, inr, true, Some, [], ◌∷◌, refl, sym, ◌∙◌, subst}
+use Rattle.std.proofs.Common.{◌≡◌, ◌≢◌, inl, inr, true, [], subst}
 use Rattle.sfc_desk.specs.declared.ports.Port.TheVariants as ports
 use Rattle.sfc_desk.specs.Desks.{Files}
 use Rattle.commands.specs.Openings.{StopsAt}
+use Rattle.commands.specs.Outputs.{TookFrontsOfEach}
 use Rattle.commands.proofs.PlaceLemmas.{behaves_so}
-use Rattle.single_command.specs.SingleCommand.{HasCapture, run_ports}
-use Rattle.single_command.specs.SingleSteps.{HoldsInputs, files_of}
-use Rattle.single_command.proofs.SingleLemmas.{HeldAre, fails_from, later_ports, outside_run, run_row, works_from}
+use Rattle.worker_run.specs.Runs.{IsSingle, single_says}
+use Rattle.sfc_config.specs.Parts.{AreParts}
+use Rattle.file_runs.specs.RunTexts.{AreRuns}
+use Rattle.file_runs.specs.FileRuns.{HasCapture, run_ports}
+use Rattle.file_runs.specs.RunSteps.{HoldsInputs, files_of}
+use Rattle.file_runs.proofs.CallLemmas.{fails_from, later_ports, outside_run, run_row, stops_each, works_from}
+use Rattle.single_command.proofs.SingleLemmas.{says_one}
 use Rattle.single_command.proofs.single_calls.run_single.Goals as goal
 
 pub returns-in-Err-clause-behaves : goal.returns-in-Err-clause-behaves
@@ -32,12 +37,20 @@ returns-clause-runs g c =
     let then = g.D.Desk.at c.args.desk.now in
     let mid = g.D.Desk.at c.open_files.new.desk in
     let says = c.single_stream.ensures in
+    let runs : AreParts c.in-Ok.setup → AreRuns c.in-Ok.setup (single_says c.in-Ok.setup) (IsSingle c.in-Ok.setup) =
+    λ parts. record {
+      run = λ frames segments rounds records. c.a_single_run_is_what_its_rounds_say.ensures.run c.in-Ok.setup frames segments rounds records;
+      rounds = λ frames segments records. c.a_single_run_is_what_its_rounds_say.ensures.rounds c.in-Ok.setup frames segments records;
+    } in
     inr (
       c.in-Ok.setup,
       c.in-Ok.ensures.setup,
-      works_from c.segments_have_one_log.ensures c.a_round_says_one_list.ensures files c.in-Ok.setup g.D.Desk.tells (g.D.Desk.held c.args.desk.now) then mid (g.D.Desk.at c.single_stream.new.desk) c.single_stream.result
+      works_from (single_says c.in-Ok.setup) IsSingle TookFrontsOfEach files c.in-Ok.setup g.D.Desk.tells (g.D.Desk.held c.args.desk.now) then mid (g.D.Desk.at c.single_stream.new.desk) c.single_stream.result
           (c.in_default.ensures.opens then c.in-Ok.ensures.opened) says.none_bound
           (λ told. let holds = subst (λ (held : Files). HoldsInputs files held mid) c.read_setup.ensures.files (c.in_default.ensures.holds told) in record { capture = holds.capture; control = holds.control })
+          runs
+          (λ opened are stopped. stops_each c.segments_have_one_log.ensures (single_says c.in-Ok.setup) IsSingle files c.in-Ok.setup g.D.Desk.tells (g.D.Desk.held c.args.desk.now) then mid (g.D.Desk.at c.single_stream.new.desk) runs
+          (says_one c.a_round_says_one_list.ensures c.in-Ok.setup) opened are stopped)
           says.works,
     )
 
@@ -50,5 +63,5 @@ returns-clause-behaves g c =
     let says = c.single_stream.ensures in
     behaves_so (run_ports files) [] g.D.Desk.tells (g.D.Desk.held c.args.desk.now) then mid now c.single_stream.result (run_row files) (c.in_default.ensures.opens then c.in-Ok.ensures.opened) says.none_bound
     (λ port outside. says.others port (outside_run files port outside))
-    (λ port is. fails_from files c.in-Ok.setup g.D.Desk.tells mid now c.single_stream.result port says.works is)
+    (λ port is. fails_from (single_says c.in-Ok.setup) files c.in-Ok.setup g.D.Desk.tells mid now c.single_stream.result port says.works is)
     says.counts

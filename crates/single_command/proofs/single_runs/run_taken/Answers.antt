@@ -1,5 +1,7 @@
 -- What is known of a round that was taken is what is asked of one that is run, and behind it the run goes on or halts.
-use Rattle.single_command.proofs.TakenLemmas.{along_round, halts_round, sound_by, taken_limits, taken_peers, taken_room, taken_short}
+use Rattle.file_runs.proofs.TakenLemmas.{along_round, halts_round, sound_by, taken_limits, taken_peers, taken_room, taken_short}
+use Rattle.worker_run.specs.Runs.{single_says}
+use Rattle.single_command.proofs.SingleLemmas.{said_of_setup}
 use Rattle.single_command.proofs.single_runs.run_taken.Goals as goal
 
 pub run_round-requires : goal.run_round-requires
@@ -12,21 +14,21 @@ run_round-requires g c =
     record {
       sound = sound_by run.runner taken.history taken.log taken.is_said.stands;
       some = (taken.history, taken.log, taken.is_said.stands);
-      limits = taken_limits setup g.D.Desk.tells then now run c.args.place taken;
-      peers = taken_peers setup g.D.Desk.tells then now run c.args.place taken;
-      short = taken_short setup g.D.Desk.tells then now run c.args.place taken;
-      room = taken_room setup g.D.Desk.tells then now run c.args.place taken;
+      limits = taken_limits (single_says setup) setup g.D.Desk.tells then now run c.args.place taken;
+      peers = taken_peers (single_says setup) setup g.D.Desk.tells then now run c.args.place taken;
+      short = taken_short (single_says setup) setup g.D.Desk.tells then now run c.args.place taken;
+      room = taken_room (single_says setup) setup g.D.Desk.tells then now run c.args.place taken;
       ready = taken.standing.ready;
     }
 
 pub returns-clause-along : goal.returns-clause-along
 returns-clause-along g c = λ setup then taken.
-    along_round setup g.D.Desk.tells (g.D.Desk.held c.args.desk.now) (g.D.Desk.held c.run_round.new.desk) then (g.D.Desk.at c.args.desk.now) (g.D.Desk.at c.run_round.new.desk) c.args.run.now c.args.place
+    along_round (single_says setup) setup g.D.Desk.tells (g.D.Desk.held c.args.desk.now) (g.D.Desk.held c.run_round.new.desk) then (g.D.Desk.at c.args.desk.now) (g.D.Desk.at c.run_round.new.desk) c.args.run.now c.args.place
     c.run_round.new.runner c.run_round.new.frames c.run_round.new.outputs c.run_round.result taken c.run_round.ensures.setup c.run_round.ensures.writes c.run_round.ensures.counts c.run_round.ensures.ready
-    (c.run_round.ensures.hold _ taken.is_said.hold) (c.run_round.ensures.round taken.history taken.log taken.is_said.stands)
+    (c.run_round.ensures.hold _ taken.is_said.hold) (said_of_setup setup g.D.Desk.tells (g.D.Desk.at c.args.desk.now) (g.D.Desk.at c.run_round.new.desk) c.args.run.now c.args.place c.run_round.new.runner c.run_round.new.frames c.run_round.new.outputs c.run_round.result then taken c.run_round.ensures.setup (c.run_round.ensures.round taken.history taken.log taken.is_said.stands))
 
 pub returns-clause-halts : goal.returns-clause-halts
 returns-clause-halts g c = λ setup then taken.
-    halts_round setup g.D.Desk.tells (g.D.Desk.held c.args.desk.now) (g.D.Desk.held c.run_round.new.desk) then (g.D.Desk.at c.args.desk.now) (g.D.Desk.at c.run_round.new.desk) c.args.run.now c.args.place
+    halts_round (single_says setup) setup g.D.Desk.tells (g.D.Desk.held c.args.desk.now) (g.D.Desk.held c.run_round.new.desk) then (g.D.Desk.at c.args.desk.now) (g.D.Desk.at c.run_round.new.desk) c.args.run.now c.args.place
     c.run_round.new.runner c.run_round.new.frames c.run_round.new.outputs c.run_round.result taken c.run_round.ensures.setup c.run_round.ensures.writes c.run_round.ensures.counts c.run_round.ensures.never_long
-    (c.run_round.ensures.round taken.history taken.log taken.is_said.stands)
+    (said_of_setup setup g.D.Desk.tells (g.D.Desk.at c.args.desk.now) (g.D.Desk.at c.run_round.new.desk) c.args.run.now c.args.place c.run_round.new.runner c.run_round.new.frames c.run_round.new.outputs c.run_round.result then taken c.run_round.ensures.setup (c.run_round.ensures.round taken.history taken.log taken.is_said.stands))

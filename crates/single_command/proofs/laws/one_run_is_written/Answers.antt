@@ -1,7 +1,0 @@
--- Both are the run over the one reading of both files.
-use Rattle.single_command.proofs.WriteLemmas.{one_writing}
-use Rattle.single_command.proofs.laws.one_run_is_written.Goals as goal
-
-pub returns : goal.returns
-returns c = λ setup capture control end halt out other parts x y.
-    one_writing c.segments_have_one_log.ensures c.a_round_says_one_list.ensures setup capture control end halt out other parts.roster_fits x y
