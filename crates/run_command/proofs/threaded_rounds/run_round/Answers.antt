@@ -1,0 +1,33 @@
+-- The round was run and put, or one of both failed.
+use Rattle.std.proofs.Common.{◌≡◌, inl, ◌++◌, sym, ap, subst, ◌∙◌, length}
+use Rattle.sfc_config.specs.Parts.{Parts}
+use Rattle.sfc_routes.specs.Entries.{Entries}
+use Rattle.control_histories.specs.Logs.{changes_of}
+use Rattle.worker_run.specs.Runners.{RoundedOnThreads}
+use Rattle.worker_run.specs.Runs.{run_says}
+use Rattle.round_outputs.specs.RoundOutputs.{AreNamed}
+use Rattle.file_runs.proofs.PutLemmas.{fronts_still}
+use Rattle.file_runs.proofs.RoundLemmas.{always, round_put}
+use Rattle.run_command.proofs.ThreadedLemmas.{forwarded_on_threads, named_on_threads}
+use Rattle.run_command.proofs.threaded_rounds.run_round.Goals as goal
+
+pub put_round-requires-clause-named : goal.put_round-requires-clause-named
+put_round-requires-clause-named g c =
+    let some = c.requires.some in
+    let runner = c.round.new.self in
+    let rounded : RoundedOnThreads runner some.0 some.1 c.args.group.now c.args.frames.now.batch c.round.new.batch c.in-Ok.replies = c.in-Ok.ensures.history some.0 some.1 some.2 in
+    let same : c.setup.inside.roster ≡ runner.setup.roster = ap (λ (p : Parts). p.roster) c.setup.view_is ∙ ap (λ (p : Parts). p.roster) c.setup-setup.ensures in
+    subst (λ (e : Entries). AreNamed e c.round.new.batch) (sym same) (named_on_threads runner.setup (changes_of (some.1 ++ rounded.now)) (length (changes_of some.1)) (length (changes_of (some.1 ++ rounded.now))) runner.workers c.args.frames.now.batch c.round.new.batch rounded.each)
+
+pub returns-in-Err-clause-round : goal.returns-in-Err-clause-round
+returns-in-Err-clause-round g c = λ history log stands told texts was. inl (fronts_still (g.D.Desk.at c.args.desk.now) c.args.outputs.now texts was)
+
+pub returns-clause-round : goal.returns-clause-round
+returns-clause-round g c = λ history log stands.
+    let runner = c.round.new.self in
+    let same : c.setup.inside.roster ≡ runner.setup.roster = ap (λ (p : Parts). p.roster) c.setup.view_is ∙ ap (λ (p : Parts). p.roster) c.setup-setup.ensures in
+    round_put (run_says runner.setup runner.workers) g.D.Desk.tells (g.D.Desk.at c.args.desk.now) (g.D.Desk.at c.put_round.new.desk) (g.D.Desk.held c.args.desk.now) (g.D.Desk.held c.put_round.new.desk) c.args.outputs.now c.put_round.new.self runner c.setup.inside.roster c.args.form c.args.place history log
+    c.args.group.now c.args.frames.now.batch c.round.new.batch c.in-Ok.replies c.as_slice.result.now c.put_round.result same c.as_slice.ensures (forwarded_on_threads runner history log c.args.group.now c.args.frames.now.batch c.round.new.batch c.in-Ok.replies (c.in-Ok.ensures.history history log stands)) c.put_round.ensures
+
+pub returns-clause-hold : goal.returns-clause-hold
+returns-clause-hold g c = λ most hold. always c.put_round.result _ (c.in-Ok.ensures.count most hold)
