@@ -10,6 +10,8 @@ use sfc_desk::{MemoryDesk, Port};
 use sfc_program::{OpenGate, Status, Words, sfc_call};
 use std::alloc::{AllocError, Global};
 use std::io;
+use std::sync::Wait;
+use std::thread::Threads;
 use wire_base::{List, OutOfMemory};
 
 /// More calls than any command of these rows makes.
@@ -51,7 +53,11 @@ fn are_fronts(desk: &MemoryDesk, whole: &MemoryDesk) -> bool {
 
 impl<'a> Failing<'a> {
     /// The command over a new desk whose calls of these numbers fail; None where two files have one name.
-    fn run(&self, fail: List<u64>) -> Result<Option<Ended>, AllocError>
+    fn run<R: Threads + Wait + Sync>(
+        &self,
+        rt: &R,
+        fail: List<u64>,
+    ) -> Result<Option<Ended>, AllocError>
         requires { 0 < self.now.piece }
     {
         let desk = desk_of(self.alloc, self.piece, self.room, fail, self.files).map_err(
@@ -60,30 +66,34 @@ impl<'a> Failing<'a> {
         let Some(mut desk) = desk else {
             return Ok(None);
         };
-        let status = sfc_call(self.alloc, self.words, &mut desk, &OpenGate);
+        let status = sfc_call(rt, self.alloc, self.words, &mut desk, &OpenGate);
         Ok(Some(Ended { status, desk }))
     }
 
     /// The command over a new desk that fails at one call.
-    fn run_without(&self, call: u64) -> Result<Option<Ended>, AllocError>
+    fn run_without<R: Threads + Wait + Sync>(
+        &self,
+        rt: &R,
+        call: u64,
+    ) -> Result<Option<Ended>, AllocError>
         requires { 0 < self.now.piece }
     {
         let mut fail = List::new(self.alloc);
         fail.push(call).map_err(memory_fault)?;
-        self.run(fail)
+        self.run(rt, fail)
     }
 
     /// Prints each status that the command ends with where one call fails, the first time that it is met, up to the first number that no call has any
     /// more; and each number behind whose failure an output holds no front of what the whole run writes.
-    pub(crate) fn show<R: Print>(&self, rt: &R) -> io::Result<bool>
+    pub(crate) fn show<R: Print + Threads + Wait + Sync>(&self, rt: &R) -> io::Result<bool>
         requires { 0 < self.now.piece }
     {
-        let Some(whole) = self.run(List::new(self.alloc))? else {
+        let Some(whole) = self.run(rt, List::new(self.alloc))? else {
             return Ok(false);
         };
         let mut seen = Vec::new(self.alloc);
         for call in 0..MOST {
-            let Some(ended) = self.run_without(call)? else {
+            let Some(ended) = self.run_without(rt, call)? else {
                 return Ok(false);
             };
             if !are_fronts(&ended.desk, &whole.desk) {

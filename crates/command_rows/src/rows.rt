@@ -12,6 +12,8 @@ use sfc_program::{OpenGate, Words, sfc_call};
 use std::alloc::{AllocError, Global};
 use std::io;
 use std::str::SplitWhitespace;
+use std::sync::Wait;
+use std::thread::Threads;
 use wire_base::{List, OutOfMemory};
 
 /// Want of memory, as the program ends with it.
@@ -37,7 +39,11 @@ impl Rows {
     }
 
     /// Keeps what the row says for later ones, or prints the row and what it shows.
-    pub(crate) fn take<R: Print>(&mut self, rt: &R, line: &str) -> io::Result<()> {
+    pub(crate) fn take<R: Print + Threads + Wait + Sync>(
+        &mut self,
+        rt: &R,
+        line: &str,
+    ) -> io::Result<()> {
         if line.is_empty() || line.starts_with('#') {
             return Ok(());
         }
@@ -67,7 +73,7 @@ impl Rows {
     }
 
     /// Does what the row says, and prints what it shows; false where it has another form.
-    fn show<R: Print>(
+    fn show<R: Print + Threads + Wait + Sync>(
         &mut self,
         rt: &R,
         word: &str,
@@ -144,19 +150,27 @@ impl Rows {
     }
 
     /// `sfc WORD ..`
-    fn call<R: Print>(&mut self, rt: &R, words: &mut SplitWhitespace) -> io::Result<bool> {
+    fn call<R: Print + Threads + Wait + Sync>(
+        &mut self,
+        rt: &R,
+        words: &mut SplitWhitespace,
+    ) -> io::Result<bool> {
         let words = words_of(self.alloc, words).map_err(memory_fault)?;
         let Some(desk) = &mut self.desk else {
             return Ok(false);
         };
-        let status = sfc_call(self.alloc, &words, desk, &OpenGate);
+        let status = sfc_call(rt, self.alloc, &words, desk, &OpenGate);
         show_status(rt, &status)?;
         show_outputs(rt, desk)?;
         Ok(true)
     }
 
     /// `fails PIECE ROOM WORD ..`
-    fn fail_each<R: Print>(&self, rt: &R, words: &mut SplitWhitespace) -> io::Result<bool> {
+    fn fail_each<R: Print + Threads + Wait + Sync>(
+        &self,
+        rt: &R,
+        words: &mut SplitWhitespace,
+    ) -> io::Result<bool> {
         let (Some(piece), Some(room)) = (next_number(words), next_number(words)) else {
             return Ok(false);
         };

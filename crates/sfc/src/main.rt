@@ -12,6 +12,8 @@ use std::fs::Files;
 use std::io::{ErrorKind, Write};
 use std::process::ExitCode;
 use std::rt::Runtime;
+use std::sync::Wait;
+use std::thread::Threads;
 use std::{env, fs};
 use tellings::tell;
 
@@ -51,9 +53,12 @@ fn desk_of<R: Runtime + AllocGlobal, O: Drop>(rt: &R, output: O) -> Option<FileD
 }
 
 /// Does what the command line says.
-fn run<R: Runtime + AllocGlobal, O: Write>(rt: &R, desk: &mut FileDesk<R, O>) -> Status {
+fn run<R: Runtime + AllocGlobal + Threads + Wait + Sync, O: Write>(
+    rt: &R,
+    desk: &mut FileDesk<R, O>,
+) -> Status {
     match words_of(rt) {
-        Ok(words) => sfc_call(rt.alloc(), &words, desk, &OpenGate),
+        Ok(words) => sfc_call(rt, rt.alloc(), &words, desk, &OpenGate),
         Err(status) => status,
     }
 }

@@ -8,7 +8,7 @@ use Rattle.commands.specs.declared.statuses.Status.{Status}
 use Rattle.commands.specs.declared.statuses.Status.TheVariants as status
 use Rattle.commands.specs.Commands.{Behaves, CommandCall, NoneRose}
 use Rattle.commands.specs.Places.{Place}
-use Rattle.sfc_program.specs.SfcCalls.{Command, walk, show, announce, paths, single, generate, from_pcapng, to_pcapng, Spells, Runs, Wants, RowCall, row_of}
+use Rattle.sfc_program.specs.SfcCalls.{Command, walk, show, announce, paths, single, run, generate, from_pcapng, to_pcapng, Spells, Runs, Wants, RowCall, row_of}
 
 -- ---- any command
 
@@ -45,6 +45,7 @@ row_for (show said) = row.Show
 row_for (announce said) = row.Announce
 row_for (paths said) = row.Paths
 row_for (single said) = row.Single
+row_for (run said) = row.Run
 row_for (generate said) = row.Generate
 row_for (from_pcapng said) = row.FromPcapng
 row_for (to_pcapng said) = row.ToPcapng
@@ -56,6 +57,7 @@ picks_row words (show said) is = ap row_of is.spelled
 picks_row words (announce said) is = ap row_of is.spelled
 picks_row words (paths said) is = ap row_of is.spelled
 picks_row words (single said) is = ap row_of is.spelled
+picks_row words (run said) is = ap row_of is.spelled
 picks_row words (generate said) is = ap row_of is.spelled
 picks_row words (from_pcapng said) is = ap row_of is.spelled
 picks_row words (to_pcapng said) is = ap row_of is.spelled
@@ -67,6 +69,7 @@ serves words (show said) tells held then now answer is call = served said is cal
 serves words (announce said) tells held then now answer is call = served said is call
 serves words (paths said) tells held then now answer is call = served said is call
 serves words (single said) tells held then now answer is call = served said is call
+serves words (run said) tells held then now answer is call = served said is call
 serves words (generate said) tells held then now answer is call = served said is call
 serves words (from_pcapng said) tells held then now answer is call = served said is call
 serves words (to_pcapng said) tells held then now answer is call = served said is call
@@ -78,6 +81,7 @@ refuses row.Show words tells held then now answer call = refused show (λ said i
 refuses row.Announce words tells held then now answer call = refused announce (λ said is. is) call
 refuses row.Paths words tells held then now answer call = refused paths (λ said is. is) call
 refuses row.Single words tells held then now answer call = refused single (λ said is. is) call
+refuses row.Run words tells held then now answer call = refused run (λ said is. is) call
 refuses row.Generate words tells held then now answer call = refused generate (λ said is. is) call
 refuses row.FromPcapng words tells held then now answer call = refused from_pcapng (λ said is. is) call
 refuses row.ToPcapng words tells held then now answer call = refused to_pcapng (λ said is. is) call

@@ -11,6 +11,7 @@ use Rattle.announce_command.specs.AnnounceCommand.{Announce, IsAnnounce, Announc
 use Rattle.paths_command.specs.PathsCommand.{Paths, IsPaths, PathsRuns, PathsWants, PathsCall, paths_ports}
 use Rattle.file_runs.specs.FileRuns.{RunFiles, run_ports}
 use Rattle.single_command.specs.SingleCommand.{IsSingleWords, SingleRuns, SingleWants, SingleCall}
+use Rattle.run_command.specs.RunCommand.{ThreadedRun, IsThreadedRun, ThreadedRuns, ThreadedWants, RunCall, threaded_ports}
 use Rattle.generate_command.specs.GenerateCommand.{Generate, IsGenerate, GenerateRuns, GenerateWants, GenerateCall, generate_ports}
 use Rattle.from_pcapng_command.specs.FromPcapngCommand.{FromPcapng, IsFromPcapng, FromPcapngRuns, FromPcapngWants, FromPcapngCall, from_pcapng_ports}
 use Rattle.to_pcapng_command.specs.ToPcapngCommand.{ToPcapng, IsToPcapng, ToPcapngRuns, ToPcapngWants, ToPcapngCall, to_pcapng_ports}
@@ -24,6 +25,7 @@ pub data Command : Type 0 where
   announce : Announce → Command
   paths : Paths → Command
   single : RunFiles → Command
+  run : ThreadedRun → Command
   generate : Generate → Command
   from_pcapng : FromPcapng → Command
   to_pcapng : ToPcapng → Command
@@ -35,6 +37,7 @@ Spells words (show said) = IsShow words said
 Spells words (announce said) = IsAnnounce words said
 Spells words (paths said) = IsPaths words said
 Spells words (single said) = IsSingleWords words said
+Spells words (run said) = IsThreadedRun words said
 Spells words (generate said) = IsGenerate words said
 Spells words (from_pcapng said) = IsFromPcapng words said
 Spells words (to_pcapng said) = IsToPcapng words said
@@ -46,6 +49,7 @@ Runs (show said) tells held old new answer = ShowRuns said tells held old new an
 Runs (announce said) tells held old new answer = AnnounceRuns said tells held old new answer × Behaves (announce_ports said) tells held old new answer
 Runs (paths said) tells held old new answer = PathsRuns said tells held old new answer × Behaves (paths_ports said) tells held old new answer
 Runs (single said) tells held old new answer = SingleRuns said tells held old new answer × Behaves (run_ports said) tells held old new answer
+Runs (run said) tells held old new answer = ThreadedRuns said tells held old new answer × Behaves (threaded_ports said) tells held old new answer
 Runs (generate said) tells held old new answer = GenerateRuns said tells held old new answer × Behaves (generate_ports said) tells held old new answer
 Runs (from_pcapng said) tells held old new answer = FromPcapngRuns said tells held old new answer × Behaves (from_pcapng_ports said) tells held old new answer
 Runs (to_pcapng said) tells held old new answer = ToPcapngRuns said tells held old new answer × Behaves (to_pcapng_ports said) tells held old new answer
@@ -57,6 +61,7 @@ Wants (show said) held answer = ShowWants said held answer
 Wants (announce said) held answer = AnnounceWants said held answer
 Wants (paths said) held answer = PathsWants said held answer
 Wants (single said) held answer = SingleWants said held answer
+Wants (run said) held answer = ThreadedWants said held answer
 Wants (generate said) held answer = GenerateWants said held answer
 Wants (from_pcapng said) held answer = FromPcapngWants said held answer
 Wants (to_pcapng said) held answer = ToPcapngWants said held answer
@@ -70,6 +75,7 @@ row_of (word ∷ words) =
     else if bytes_eq word (codes "announce") then row.Announce
     else if bytes_eq word (codes "paths") then row.Paths
     else if bytes_eq word (codes "single") then row.Single
+    else if bytes_eq word (codes "run") then row.Run
     else if bytes_eq word (codes "generate") then row.Generate
     else if bytes_eq word (codes "from-pcapng") then row.FromPcapng
     else if bytes_eq word (codes "to-pcapng") then row.ToPcapng
@@ -82,6 +88,7 @@ RowCall row.Show words tells held old new answer = ShowCall words tells held old
 RowCall row.Announce words tells held old new answer = AnnounceCall words tells held old new answer
 RowCall row.Paths words tells held old new answer = PathsCall words tells held old new answer
 RowCall row.Single words tells held old new answer = SingleCall words tells held old new answer
+RowCall row.Run words tells held old new answer = RunCall words tells held old new answer
 RowCall row.Generate words tells held old new answer = GenerateCall words tells held old new answer
 RowCall row.FromPcapng words tells held old new answer = FromPcapngCall words tells held old new answer
 RowCall row.ToPcapng words tells held old new answer = ToPcapngCall words tells held old new answer

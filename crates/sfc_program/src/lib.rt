@@ -18,15 +18,16 @@
 //!   (`Runs`), and what the files ask for (`Wants`) is the answer where the desk tells, no call failed and memory was
 //!   there.
 //! - `walk_call`, `show_call`, `announce_call`, `paths_call`, `single_call`, `generate_call`, `from_pcapng_call` and `to_pcapng_call` are the
-//!   commands by themselves, each from its own crate.
+//!   commands by themselves, each from its own crate, and each waits for nobody and returns. `run_call` is the one command that starts
+//!   threads: it may wait for them, and so may `sfc_call`, which hands it the runtime and the gate.
 //! - `status_line` is the line of a status.
 //!
-//! Nothing here says what a real file holds, or that memory is there.
+//! Nothing here says what a real file holds, that memory is there, or that a command with threads returns.
 //!
 //! ```text
 //! let mut words = Words::new(alloc);
 //! words.push("walk")?;                              // and so on, to "out"
-//! let status = sfc_call(alloc, &words, &mut desk, &OpenGate);
+//! let status = sfc_call(&rt, alloc, &words, &mut desk, &OpenGate);
 //! let line = status_line(&status);                  // ok
 //! ```
 #![tactic(auto)]
@@ -35,11 +36,13 @@ mod sfc_calls;
 
 pub use announce_command::announce_call;
 pub use commands::{
-    CaptureReason, ControlReason, Gate, NgReason, OpenGate, SetupReason, Status, Words, status_line,
+    CaptureReason, ControlReason, NgReason, SetupReason, Status, Words, status_line,
 };
+pub use forwarder::{Gate, OpenGate};
 pub use from_pcapng_command::from_pcapng_call;
 pub use generate_command::generate_call;
 pub use paths_command::paths_call;
+pub use run_command::run_call;
 pub use sfc_calls::sfc_call;
 pub use show_command::show_call;
 pub use single_command::single_call;

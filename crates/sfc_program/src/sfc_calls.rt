@@ -5,14 +5,18 @@ ghost use Rattle.commands.specs.Commands.{NoneRose};
 ghost use Rattle.sfc_program.specs.SfcCalls.{Command, Spells, Runs, Wants, RowCall, row_of as row_of_words};
 
 use announce_command::announce_call;
-use commands::{Gate, Status, Words};
+use commands::{Status, Words};
+use forwarder::Gate;
 use from_pcapng_command::from_pcapng_call;
 use generate_command::generate_call;
 use paths_command::paths_call;
+use run_command::run_call;
 use sfc_desk::Desk;
 use show_command::show_call;
 use single_command::single_call;
 use std::alloc::Global;
+use std::sync::Wait;
+use std::thread::Threads;
 use to_pcapng_command::to_pcapng_call;
 use walk_command::walk_call;
 
@@ -24,6 +28,7 @@ pub(crate) enum Row {
     Announce,
     Paths,
     Single,
+    Run,
     Generate,
     FromPcapng,
     ToPcapng,
@@ -53,6 +58,9 @@ fn row_of(words: &Words) -> Row
     if words.word(0) == "single" {
         return Row::Single;
     }
+    if words.word(0) == "run" {
+        return Row::Run;
+    }
     if words.word(0) == "generate" {
         return Row::Generate;
     }
@@ -65,8 +73,15 @@ fn row_of(words: &Words) -> Row
     Row::Unknown
 }
 
-/// Hands the words to the call of their command.
-fn call_row<D: Desk>(alloc: Global, row: Row, words: &Words, desk: &mut D) -> Status
+/// Hands the words to the call of their command, of which `run` alone takes the runtime and the gate.
+fn call_row<R: Threads + Wait + Sync, D: Desk, G: Gate>(
+    rt: &R,
+    alloc: Global,
+    row: Row,
+    words: &Words,
+    desk: &mut D,
+    gate: &G,
+) -> Status
     ensures { RowCall row words.now D.tells (D.held desk.old) (D.at desk.old) (D.at desk.new) result }
 {
     match row {
@@ -75,6 +90,7 @@ fn call_row<D: Desk>(alloc: Global, row: Row, words: &Words, desk: &mut D) -> St
         Row::Announce => announce_call(alloc, words, desk),
         Row::Paths => paths_call(alloc, words, desk),
         Row::Single => single_call(alloc, words, desk),
+        Row::Run => run_call(rt, alloc, words, desk, gate),
         Row::Generate => generate_call(alloc, words, desk),
         Row::FromPcapng => from_pcapng_call(alloc, words, desk),
         Row::ToPcapng => to_pcapng_call(alloc, words, desk),
@@ -83,7 +99,16 @@ fn call_row<D: Desk>(alloc: Global, row: Row, words: &Words, desk: &mut D) -> St
 }
 
 /// All that the program does: the command that the words spell, over the desk.
-pub fn sfc_call<D: Desk, G: Gate>(alloc: Global, words: &Words, desk: &mut D, _gate: &G) -> Status
+///
+/// The command `run` starts threads and may wait for them; the gate is told of their lookups, and of the versions that are published. Each
+/// other command is a call of its own that waits for nobody and returns.
+pub fn sfc_call<R: Threads + Wait + Sync, D: Desk, G: Gate>(
+    rt: &R,
+    alloc: Global,
+    words: &Words,
+    desk: &mut D,
+    gate: &G,
+) -> Status
     // Words comes exactly where the words spell no command.
     ensures words { (result ≡ Status.Words) ↔ ((command : Command) → Spells words.now command → ⊥) }
     // Each answer has its cause, and says what was written.
@@ -97,5 +122,5 @@ pub fn sfc_call<D: Desk, G: Gate>(alloc: Global, words: &Words, desk: &mut D, _g
         → D.tells ≡ true → NoneRose (D.at desk.old) (D.at desk.new) → result ≢ Status.Memory → result ≡ wanted }
 {
     let row = row_of(words);
-    call_row(alloc, row, words, desk)
+    call_row(rt, alloc, row, words, desk, gate)
 }
