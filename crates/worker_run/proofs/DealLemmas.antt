@@ -1,6 +1,7 @@
 -- Parts that are made, one behind the other.
 use Rattle.std.proofs.Common.{◌≡◌, ℕ, zero, suc, ◌%◌, ◌/◌, subst, ◌+◌, ◌*◌, ◌<◌, ◌≤◌, ◌⊎◌, min, inl, inr, List, [], ◌∷◌, ◌++◌, length, ap, ◌∙◌, arith, append-nil}
 use Rattle.std.proofs.lemmas.Grind.{flat_map-append}
+use Rattle.worker_run.specs.Deals.{IsSize}
 use Rattle.worker_run.specs.declared.parts.Part.{Part}
 use Rattle.worker_run.specs.Batches.{Carried}
 use Rattle.worker_run.specs.Shares.{AreNumbered, slots_of}
@@ -32,3 +33,8 @@ all_dealt count workers worker made some no_less no_more is =
     let last : worker ≡ workers = omega (arith, no_less, no_more) in
     let all : made ≡ workers * (count / workers) + min workers (count % workers) = subst (λ (w : ℕ). made ≡ w * (count / workers) + min w (count % workers)) last is in
     omega (arith, some, all)
+
+-- a share has the smaller size, or one more
+pub sized_share : (worker each extra share many : ℕ) → ((worker < extra) × (share ≡ each + 1)) ⊎ ((extra ≤ worker) × (share ≡ each)) → many ≡ share → IsSize each many
+sized_share worker each extra share many (inl x) is = inr (is ∙ x.1)
+sized_share worker each extra share many (inr x) is = inl (is ∙ x.1)

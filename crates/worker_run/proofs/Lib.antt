@@ -18,5 +18,6 @@ pub mod WindowLemmas
 pub mod ClimbLemmas
 pub mod CarryLemmas
 pub mod DealLemmas
+pub mod DealtLemmas
 pub mod EachLemmas
 pub mod ThreadLemmas

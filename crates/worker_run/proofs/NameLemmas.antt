@@ -1,5 +1,5 @@
 -- The record of a walk over tables that name the roster alone names instances of it alone.
-use Rattle.std.proofs.Common.{◌≡◌, ℕ, ◌<◌, List, [], ◌∷◌, ◌++◌, length, All, Contains, Some, get_or, refl, sym, ap, subst, ◌∙◌, arith, inl, inr}
+use Rattle.std.proofs.Common.{◌≡◌, ℕ, List, [], ◌∷◌, ◌++◌, All, Contains, Some, sym, subst, arith, inl, inr}
 use Rattle.std.specs.List.{AllByRecursion}
 use Rattle.std.proofs.lemmas.List.Elements.{All-push}
 use Rattle.wire_base.specs.declared.ids.InstanceId.{InstanceId}
@@ -19,14 +19,14 @@ use Rattle.classifier.specs.Stations.{Station, first_header, first_station}
 use Rattle.classifier.specs.declared.verdicts.Verdict.{Verdict}
 use Rattle.classifier.specs.declared.verdicts.Verdict.TheVariants as verdict
 use Rattle.record_text.specs.declared.records.End.{End}
-use Rattle.record_text.specs.declared.records.End.TheVariants.{Egress, Bypass, Drop}
+use Rattle.record_text.specs.declared.records.End.TheVariants.{Egress, Drop}
 use Rattle.record_text.specs.declared.records.Reason.TheVariants as reason
 use Rattle.record_text.specs.declared.records.Record.{Record}
 use Rattle.record_text.specs.Names.{IsInstance}
 use Rattle.record_text.specs.Ends.{EndNames, ReasonNames}
 use Rattle.record_text.specs.Lines.{Names}
 use Rattle.sfc_config.specs.Parts.{Parts}
-use Rattle.forwarder.specs.Walks.{Ends, Follows, GoesOn, IsWalk, Turn, Walk, WalkFrom, WalksBy, functions_of, handed, reason_of, served}
+use Rattle.forwarder.specs.Walks.{Ends, Follows, GoesOn, IsWalk, Walk, WalkFrom, WalksBy, functions_of, reason_of}
 use Rattle.forwarder.specs.Records.{Tells}
 
 abbrev AreKnown : Entries → List InstanceId → Type 0

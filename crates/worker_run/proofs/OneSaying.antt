@@ -1,5 +1,5 @@
 -- A round on one thread says one list of records.
-use Rattle.std.proofs.Common.{◌≡◌, ℕ, List, [], ◌∷◌, ◌++◌, length, All, Contains, take, refl, sym, ap, subst, ◌∙◌, arith, inl, inr}
+use Rattle.std.proofs.Common.{◌≡◌, ℕ, List, [], ◌∷◌, ◌++◌, length, All, take, refl, sym, ap, subst, ◌∙◌, arith, inl, inr}
 use Rattle.std.specs.List.{AllByRecursion, AllZip}
 use Rattle.std.proofs.lemmas.List.{take_all}
 use Rattle.std.proofs.lemmas.List.Elements.{All-tail, All-from_recursion}
@@ -23,14 +23,13 @@ use Rattle.record_text.specs.declared.records.Record.{Record}
 use Rattle.classifier.specs.Stations.{Station, first_header, first_station}
 use Rattle.classifier.specs.declared.verdicts.Verdict.{Verdict}
 use Rattle.classifier.specs.declared.verdicts.Verdict.TheVariants as verdict
-use Rattle.forwarder.specs.Walks.{Ends, Follows, GoesOn, IsWalk, Outcome, Turn, Walk, WalkFrom, WalksBy, functions_of}
+use Rattle.forwarder.specs.Walks.{Ends, Follows, GoesOn, IsWalk, Turn, Walk, WalkFrom, WalksBy, functions_of}
 use Rattle.forwarder.specs.Workspaces.{taken_in}
-use Rattle.forwarder.specs.Records.{Tells}
 use Rattle.forwarder.proofs.OneWalk.{OneVerdict}
 use Rattle.control_histories.specs.Logs.{AreOfPeers, Heard, changes_of}
 use Rattle.control_histories.specs.Versions.{IsVersion, TableAfter}
 use Rattle.control_histories.proofs.TableLemmas.{is_table}
-use Rattle.worker_run.specs.Records.{NamesOnly, SingleRecord, TellsWalk}
+use Rattle.worker_run.specs.Records.{SingleRecord}
 use Rattle.worker_run.specs.Rounds.{SaysSingle}
 
 -- ---- turns over one table

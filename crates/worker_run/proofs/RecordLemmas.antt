@@ -1,5 +1,5 @@
 -- A frame that was forwarded over the table after all changes has the record that a run on one thread may say.
-use Rattle.std.proofs.Common.{◌≡◌, ℕ, ◌≤◌, List, [], ◌∷◌, ◌++◌, length, map, take, All, Some, None, Option, refl, sym, ap, subst, ◌∙◌, arith}
+use Rattle.std.proofs.Common.{◌≡◌, ℕ, List, [], ◌∷◌, length, take, sym, subst, arith}
 use Rattle.std.specs.List.{AllByRecursion, AllZip}
 use Rattle.std.proofs.lemmas.List.{take_all}
 use Rattle.std.proofs.lemmas.List.Elements.{All-from_recursion}
@@ -9,7 +9,6 @@ use Rattle.sfc_config.specs.Parts.{Parts}
 use Rattle.path_selection.specs.Paths.{ServicePath}
 use Rattle.route_selection.specs.Names.{AreOfRoster}
 use Rattle.route_selection.proofs.NameLemmas.{names_roster}
-use Rattle.forwarder.specs.Walks.{Walk}
 use Rattle.forwarder.specs.Workspaces.{taken_in}
 use Rattle.control_histories.specs.Versions.{IsVersion, TableAfter}
 use Rattle.worker_run.specs.Batches.{Carried}

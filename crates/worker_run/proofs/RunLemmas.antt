@@ -1,14 +1,13 @@
 -- What rounds say one behind the other is one run, and a run is what its rounds say.
-use Rattle.std.proofs.Common.{◌≡◌, ℕ, zero, suc, ◌+◌, ◌<◌, ◌≤◌, List, [], ◌∷◌, ◌++◌, append-nil, length, map, take, drop, All, Contains, refl, sym, ap, subst, ◌∙◌, arith, append_assoc, length-append}
+use Rattle.std.proofs.Common.{◌≡◌, ℕ, zero, suc, ◌+◌, ◌≤◌, List, [], ◌∷◌, ◌++◌, append-nil, length, map, take, drop, Contains, refl, sym, ap, subst, ◌∙◌, arith, append_assoc, length-append}
 use Rattle.std.specs.List.{AllByRecursion, AllZip}
 use Rattle.std.proofs.lemmas.List.{length-map, take_all, take-append-le, take-append-drop}
 use Rattle.std.proofs.lemmas.List.Elements.{All-from_recursion, recursion_from_All}
-use Rattle.bgp_session.specs.declared.local_sides.Local.{Local}
 use Rattle.control_files.specs.declared.segments.Segment.{Segment}
 use Rattle.control_files.specs.Segments.{numbers}
 use Rattle.pcap_io.specs.declared.frames.Captured.{Captured}
 use Rattle.record_text.specs.declared.records.Record.{Record}
-use Rattle.rounds.specs.Rounds.{Round, Rounds, at_cut, frames_of, is_empty, round_segments, segments_of}
+use Rattle.rounds.specs.Rounds.{Round, Rounds, is_empty, round_segments, segments_of}
 use Rattle.rounds.specs.Places.{Place, places_of, round_places}
 use Rattle.rounds.specs.Says.{Says, Lines}
 use Rattle.rounds.proofs.LastLemmas.{front_taken}
@@ -16,9 +15,8 @@ use Rattle.session_machine.specs.Groups.{Entry}
 use Rattle.sfc_config.specs.Parts.{Parts}
 use Rattle.sfc_routes.specs.Entries.{Entries}
 use Rattle.sfc_routes.specs.declared.route_changes.RouteChange.{RouteChange}
-use Rattle.sfc_routes.proofs.MemberLemmas.{all_join, all_front, all_back}
+use Rattle.sfc_routes.proofs.MemberLemmas.{all_join, all_front}
 use Rattle.path_selection.specs.Paths.{ServicePath}
-use Rattle.forwarder.specs.Workspaces.{taken_in}
 use Rattle.control_histories.specs.Happenings.{Logs, said_by, told_by}
 use Rattle.control_histories.specs.Logs.{AreOfPeers, Heard, changes_of}
 use Rattle.control_histories.specs.Versions.{IsVersion, TableAfter}

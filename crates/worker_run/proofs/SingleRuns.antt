@@ -1,13 +1,13 @@
 -- The run on one thread: what its rounds say, that it is one on any number of workers, and that there is one.
-use Rattle.std.proofs.Common.{◌≡◌, ℕ, ◌+◌, ◌<◌, ◌≤◌, List, [], ◌∷◌, ◌++◌, length, All, refl, sym, ap, subst, ◌∙◌, arith, append_assoc}
+use Rattle.std.proofs.Common.{◌≡◌, ℕ, ◌+◌, ◌≤◌, List, [], ◌∷◌, ◌++◌, length, All, refl, sym, ap, subst, ◌∙◌, arith, append_assoc}
 use Rattle.std.specs.List.{AllByRecursion, AllZip}
 use Rattle.std.proofs.lemmas.List.Elements.{All-tail, recursion_from_All}
 use Rattle.control_files.specs.declared.segments.Segment.{Segment}
 use Rattle.pcap_io.specs.declared.frames.Captured.{Captured}
 use Rattle.record_text.specs.declared.records.Record.{Record}
 use Rattle.rounds.specs.Rounds.{Round, Rounds, segments_of}
-use Rattle.rounds.specs.Places.{Place, places_of}
-use Rattle.rounds.specs.Says.{Says, Lines}
+use Rattle.rounds.specs.Places.{places_of}
+use Rattle.rounds.specs.Says.{Lines}
 use Rattle.rounds.proofs.RoundLemmas.{unique}
 use Rattle.session_machine.specs.Events.{beginning}
 use Rattle.session_machine.specs.Groups.{Entry}
@@ -19,7 +19,7 @@ use Rattle.worker_run.specs.Records.{NamesOnly, SingleRecord}
 use Rattle.worker_run.specs.Rounds.{SaysSingle}
 use Rattle.worker_run.specs.Runs.{ClimbsWithin, IsRun, IsSingle, MayComeBehind, RecordAt, RunRecord, SaysRun, WorkersClimb, made, run_says, single_says}
 use Rattle.worker_run.proofs.OneSaying.{OneLog}
-use Rattle.worker_run.proofs.RunLemmas.{RecordWith, RunsWith, SaysWith, all_so, all_taken, apart, lines_so, made_all, made_rises, peers_front, together, with_says, zip_both, zip_map}
+use Rattle.worker_run.proofs.RunLemmas.{RecordWith, all_so, all_taken, apart, lines_so, made_all, made_rises, peers_front, together, with_says, zip_both, zip_map}
 
 -- no further word
 abbrev Nothing : ℕ → Record → Type 0

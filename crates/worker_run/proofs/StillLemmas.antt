@@ -1,9 +1,8 @@
 -- A walk over a table that stays the only one.
-use Rattle.std.proofs.Common.{◌≡◌, ℕ, Bool, true, false, cond, eq-eqb, List, [], ◌∷◌, ◌++◌, map, Option, Some, None, refl, sym, ap, subst, ◌∙◌, inl, inr}
+use Rattle.std.proofs.Common.{◌≡◌, ℕ, Bool, true, false, cond, eq-eqb, List, [], ◌∷◌, map, Some, None, sym, ap, subst, ◌∙◌, inl, inr}
 use Rattle.std.specs.List.{AllZip}
 use Rattle.std.proofs.lemmas.Bool.{cases_eq, ne_eqb}
 use Rattle.net_frames.specs.Captured.{Captured as Framed}
-use Rattle.pcap_io.specs.declared.frames.Captured.{Captured}
 use Rattle.path_selection.specs.Paths.{ServicePath}
 use Rattle.path_selection.specs.Published.{Published, StartsWith, one_table, table_at}
 use Rattle.record_text.specs.declared.records.Record.{Record}

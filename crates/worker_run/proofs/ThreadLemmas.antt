@@ -26,6 +26,7 @@ use Rattle.worker_run.specs.Shares.{AreShared, published_on, slots_of}
 use Rattle.worker_run.specs.Steps.{RanOnThreads}
 use Rattle.worker_run.proofs.CarryLemmas.{all_carry}
 use Rattle.worker_run.proofs.ClimbLemmas.{parts_climb}
+use Rattle.worker_run.proofs.DealtLemmas.{shared_dealt}
 use Rattle.worker_run.proofs.OutputLemmas.{outs}
 use Rattle.worker_run.proofs.RoundLemmas.{changes_behind}
 use Rattle.worker_run.proofs.RunLemmas.{log_long, made_all, made_front}
@@ -89,6 +90,7 @@ module _ (setup : Parts) (workers : ℕ) (history : List Segment) (log : List En
             (subst (λ (cs : List Carried). AllZip (R (changes_of log ++ changes_of now)) cs new_batch) (sym shared.old_is)
             (subst (λ (ds : List Carried). AllZip (R (changes_of log ++ changes_of now)) (slots_of shared.before) ds) (sym shared.new_is) each));
         climb = subst (λ (ds : List Carried). WorkersClimb (records_in ds)) (sym shared.new_is) climbing.climb;
+        dealt = shared_dealt setup (published_on table old.version w.lists.items) workers batch new_batch shared;
       }
 
 run_records : (setup : Parts) (changes : List RouteChange) (low lower high workers : ℕ) (old new : List Carried) → low ≡ lower → AllZip (λ c d. RunCarries setup changes low high workers c d) old new
@@ -118,6 +120,7 @@ rounded_on_threads runner history log segments old new replies before table work
         each = run_records runner.setup changes (length (changes_of log)) (made all (length history)) (length changes) runner.workers old new low y.each;
         climb = y.climb;
       };
+      dealt = y.dealt;
       out = λ form. outs runner.setup (λ c d. RunCarries runner.setup changes (length (changes_of log)) (length changes) runner.workers c d) (λ c d z. z.left) form old new y.each;
     }
 

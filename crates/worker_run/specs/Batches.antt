@@ -1,5 +1,5 @@
 -- The frames of a batch, each with what became of it.
-use Rattle.std.specs.Prelude.{ℕ, List, [], ◌∷◌, map, None, All}
+use Rattle.std.specs.Prelude.{ℕ, List, [], map, None, All}
 use Rattle.pcap_io.specs.declared.frames.Captured.{Captured}
 use Rattle.pcap_io.specs.declared.frames.PacketHead.{PacketHead}
 use Rattle.pcap_io.specs.Captures.{IsWithinLimits}

@@ -1,5 +1,6 @@
 pub mod Batches
 pub mod Records
+pub mod Deals
 pub mod Rounds
 pub mod Runs
 pub mod Outputs

@@ -1,5 +1,5 @@
 -- What a run may say of a frame, by the changes of routes that were made.
-use Rattle.std.specs.Prelude.{◌≡◌, ℕ, ◌≤◌, List, length, All}
+use Rattle.std.specs.Prelude.{◌≡◌, ℕ, List, length, All}
 use Rattle.std.specs.List.{AllZip}
 use Rattle.pcap_io.specs.declared.frames.Captured.{Captured}
 use Rattle.record_text.specs.declared.records.Record.{Record}

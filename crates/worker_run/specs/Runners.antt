@@ -11,6 +11,7 @@ use Rattle.forwarder.specs.Walks.{functions_of}
 use Rattle.control_histories.specs.Logs.{changes_of}
 use Rattle.worker_run.specs.declared.runners.Runner.{Runner}
 use Rattle.worker_run.specs.Batches.{Carried, frame_left, frames_in, records_in}
+use Rattle.worker_run.specs.Deals.{AreDealt}
 use Rattle.worker_run.specs.Records.{SingleRecord}
 use Rattle.worker_run.specs.Rounds.{SaysSingle}
 use Rattle.worker_run.specs.Runs.{RunRecord, SaysRun}
@@ -55,11 +56,12 @@ pub record RunCarries (setup : Parts) (changes : List RouteChange) (low high wor
   pub left : new.frame ≡ frame_left (functions_of setup.instances) old.frame new.outcome
 
 -- A round on threads: the runner took the segments, what these are answered comes behind the replies so far, and the batch has the
--- records that the round may say on so many workers, in order, and the frames as they are left.
+-- records that the round may say on so many workers, in order and dealt in shares, and the frames as they are left.
 pub record RoundedOnThreads (runner : Runner) (history : List Segment) (log : List Entry) (segments : List Segment) (old new : List Carried) (replies : List ℕ) : Type 0 where
   pub now : List Entry
   pub stands : Stands runner (history ++ segments) (log ++ now)
   pub replies_are : RepliesOf (history ++ segments) (log ++ now) ≡ RepliesOf history log ++ replies
   pub each : AllZip (λ c d. RunCarries runner.setup (changes_of (log ++ now)) (length (changes_of log)) (length (changes_of (log ++ now))) runner.workers c d) old new
   pub says : SaysRun runner.setup runner.workers history segments (frames_in old) (records_in new)
+  pub dealt : AreDealt runner.workers (records_in new)
   pub out : (form : Form) → egress_packets runner.setup form (frames_in old) (records_in new) ≡ packets_out form new

@@ -1,6 +1,6 @@
 -- What workers make of their shares of a round's frames; no public clause stands on it.
 use Rattle.std.specs.Prelude.{◌≡◌, ℕ, ◌+◌, ◌-◌, ◌^◌, ◌<◌, ◌≤◌, List, [], ◌∷◌, ◌++◌, Option, Some, None, length, take, drop, IfOk}
-use Rattle.std.specs.List.{AllZip, flat_map}
+use Rattle.std.specs.List.{AllByRecursion, AllZip, flat_map}
 use Rattle.logbook.specs.Pages.{Book}
 use Rattle.path_selection.specs.declared.changes.Change.{Change}
 use Rattle.path_selection.specs.Paths.{ServicePath}
@@ -13,6 +13,7 @@ use Rattle.forwarder.specs.Walks.{functions_of}
 use Rattle.forwarder.specs.Workspaces.{taken_in}
 use Rattle.forwarder.specs.Traces.{Worked as Workspace}
 use Rattle.forwarder.specs.Records.{IsRecord}
+use Rattle.worker_run.specs.Deals.{IsSize}
 use Rattle.worker_run.specs.declared.parts.Part.{Part}
 use Rattle.worker_run.specs.Batches.{AreWithinLimits, Carried, frame_left}
 
@@ -156,7 +157,7 @@ pub record Exchanged (old new : Part) : Type 0 where
   pub shape : SameShape old new
   pub seat : new.seat ≡ old.seat
 
--- the slots in order are those of so many workers' parts, and each part was forwarded whole
+-- the slots in order are those of so many workers' parts, whose sizes differ by at most 1, and each part was forwarded whole
 pub record AreShared (setup : Parts) (published : Publications) (workers : ℕ) (old new : List Carried) : Type 0 where
   pub before : List Part
   pub parts : List Part
@@ -164,4 +165,6 @@ pub record AreShared (setup : Parts) (published : Publications) (workers : ℕ) 
   pub new_is : new ≡ slots_of parts
   pub numbered : AreNumbered 0 before
   pub many : length before ≡ workers
+  pub size : ℕ
+  pub sized : AllByRecursion (λ p. IsSize size (length p.slots.items)) before
   pub forwarded : AllZip (Forwarded setup published) before parts

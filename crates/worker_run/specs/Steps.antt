@@ -11,6 +11,7 @@ use Rattle.forwarder.specs.Records.{Tells}
 use Rattle.control_histories.specs.Happenings.{Logs}
 use Rattle.control_histories.specs.Logs.{changes_of}
 use Rattle.control_histories.specs.Replies.{reply_bytes}
+use Rattle.worker_run.specs.Deals.{AreDealt}
 use Rattle.worker_run.specs.declared.controls.Control.{Control}
 use Rattle.worker_run.specs.Batches.{Carried, frame_left, records_in}
 use Rattle.worker_run.specs.Controls.{Publishes}
@@ -42,3 +43,4 @@ pub record RanOnThreads (setup : Parts) (workers : ℕ) (control : Control) (tab
   pub replies_are : replies ≡ reply_bytes segments now
   pub each : AllZip (λ c d. RunCarries setup (changes_of (log ++ now)) (length (changes_of log)) (length (changes_of (log ++ now))) workers c d) old new
   pub climb : WorkersClimb (records_in new)
+  pub dealt : AreDealt workers (records_in new)

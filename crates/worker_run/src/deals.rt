@@ -1,7 +1,8 @@
 //! The frames of a round are dealt out in order, in shares whose sizes differ by at most 1, and taken back.
 
-ghost use Rattle.std.specs.Prelude.{◌≡◌, ◌+◌, ◌<◌, ◌≤◌, ◌^◌, ◌⊎◌, length, IfOk, None};
+ghost use Rattle.std.specs.Prelude.{◌≡◌, ◌+◌, ◌/◌, ◌<◌, ◌≤◌, ◌^◌, ◌⊎◌, length, IfOk, None};
 ghost use Rattle.std.specs.List.{AllByRecursion, AllZip};
+ghost use Rattle.worker_run.specs.Deals.{IsSize};
 ghost use Rattle.worker_run.specs.Shares.{AreNumbered, Exchanged, slots_of};
 
 use crate::batches::Slot;
@@ -31,6 +32,7 @@ pub(crate) fn make_parts(
     requires { 1 ≤ workers }
     ensures numbered { IfOk result (λ parts. AreNumbered 0 parts.items × (length parts.items ≡ workers)) }
     ensures seats { IfOk result (λ parts. AllByRecursion (λ p. p.seat ≡ None) parts.items) }
+    ensures sized { IfOk result (λ parts. AllByRecursion (λ p. IsSize (count / workers) (length p.slots.items)) parts.items) }
     ensures many { IfOk result (λ parts. length (slots_of parts.items) ≡ count) }
 {
     let each = count / workers as usize;

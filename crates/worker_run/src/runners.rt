@@ -137,6 +137,7 @@ impl Runner {
             → IfOk result (λ replies. Rounded self.new history log segments.now batch.old batch.new replies) }
         ensures sound { IsSound self.new }
         ensures setup { self.new.setup ≡ self.old.setup }
+        ensures workers { self.new.workers ≡ self.old.workers }
         ensures again { self.old.failed ≡ true → OnOk result ⊥ }
         ensures failed { OnErr result (self.new.failed ≡ true) }
         ensures frames { length batch.new ≡ length batch.old }

@@ -1,5 +1,5 @@
 -- The one table is all that a lookup can name.
-use Rattle.std.proofs.Common.{◌≡◌, List, ap, sym, subst, ◌∙◌}
+use Rattle.std.proofs.Common.{ap, subst, ◌∙◌}
 use Rattle.path_selection.specs.Published.{Published, StartsWith, one_table}
 use Rattle.worker_run.specs.Batches.{Carried}
 use Rattle.worker_run.proofs.StillLemmas.{forwards, still_known}

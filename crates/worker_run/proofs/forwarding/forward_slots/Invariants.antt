@@ -1,6 +1,4 @@
 -- Those before the place are forwarded, and those from it on are as they were.
-use Rattle.std.proofs.Common.{◌≡◌, length, drop, take}
-use Rattle.std.specs.List.{AllZip}
 use Rattle.worker_run.specs.Steps.{Forwards}
 use Rattle.worker_run.proofs.ZipLemmas.{Forwarding}
 use Rattle.worker_run.proofs.forwarding.forward_slots.Given as goal

@@ -1,5 +1,5 @@
 -- The control side took the segments, the table is that of the changes then, and every frame was forwarded over it.
-use Rattle.std.proofs.Common.{◌≡◌, ℕ, List, [], ap, sym, subst}
+use Rattle.std.proofs.Common.{ℕ, List, [], ap, subst}
 use Rattle.sfc_config.specs.Parts.{Parts}
 use Rattle.sfc_routes.specs.Entries.{Entries}
 use Rattle.worker_run.specs.Controls.{Took}

@@ -1,12 +1,14 @@
 -- The slots are dealt out, forwarded part by part, and taken back.
-use Rattle.std.proofs.Common.{◌≡◌, ◌∙◌, None, length, ap, sym, subst}
+use Rattle.std.proofs.Common.{◌≡◌, ◌∙◌, ◌/◌, None, length, ap, sym, subst}
 use Rattle.std.specs.List.{AllByRecursion, AllZip}
 use Rattle.std.proofs.lemmas.List.Elements.{recursion_from_All}
 use Rattle.pcap_io.specs.Captures.{IsWithinLimits}
 use Rattle.worker_run.specs.declared.parts.Part.{Part}
 use Rattle.worker_run.specs.Batches.{AreWithinLimits, Carried}
+use Rattle.worker_run.specs.Deals.{IsSize}
 use Rattle.worker_run.specs.Shares.{AreNumbered, AreShared, Forwarded, published_on, slots_of}
 use Rattle.worker_run.proofs.ShareLemmas.{exchanged_seats, exchanged_shape, parts_limits, shape_long, shape_numbered, slots_many}
+use Rattle.worker_run.proofs.DealtLemmas.{shape_sized}
 use Rattle.worker_run.proofs.StepLemmas.{on_ok}
 use Rattle.worker_run.proofs.thread_rounds.forward_slots.Goals as goal
 
@@ -41,5 +43,7 @@ returns-clause-shares g c =
       new_is = c.exchange-2.ensures.slots;
       numbered = shape_numbered 0 made before numbered shape;
       many = shape_long made before shape ∙ ap length c.as_mut_slice-parts.ensures.value ∙ all.1;
+      size = (length c.args.slots.now / c.args.workers);
+      sized = shape_sized (length c.args.slots.now / c.args.workers) made before (subst (AllByRecursion (λ (p : Part). IsSize (length c.args.slots.now / c.args.workers) (length p.slots.items))) (sym c.as_mut_slice-parts.ensures.value) c.in_ok-parts.ensures.sized) shape;
       forwarded = forwarded;
     })

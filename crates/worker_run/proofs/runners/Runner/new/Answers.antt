@@ -3,7 +3,6 @@ use Rattle.std.proofs.Common.{[], refl, subst, inr}
 use Rattle.sfc_config.specs.Parts.{Parts}
 use Rattle.control_histories.specs.Logs.{AreWith}
 use Rattle.worker_run.specs.declared.controls.Control.{Control}
-use Rattle.worker_run.specs.Controls.{Publishes}
 use Rattle.worker_run.proofs.SoundLemmas.{begins}
 use Rattle.worker_run.proofs.runners.Runner.new.Goals as goal
 

@@ -1,5 +1,5 @@
 -- A runner that has not failed stands for some segments, and a round goes on from there.
-use Rattle.std.proofs.Common.{◌+◌, ℕ, List, sym, subst}
+use Rattle.std.proofs.Common.{◌+◌, List, sym, subst}
 use Rattle.control_files.specs.declared.segments.Segment.{Segment}
 use Rattle.session_machine.specs.Groups.{Entry}
 use Rattle.session_machine.specs.Peers.{AllHold}
