@@ -32,7 +32,6 @@
 //! ```
 #![tactic(auto)]
 
-mod gates;
 mod openings;
 mod outputs;
 mod reading;
@@ -42,7 +41,6 @@ mod words;
 mod writing;
 
 pub use control_files::ControlReason;
-pub use gates::{Gate, OpenGate};
 pub use openings::open_port;
 pub use outputs::Output;
 pub use pcap_io::CaptureReason;
