@@ -2,6 +2,7 @@
 """A second program, written from the formats alone, that says what some commands of sfc must write.
 
 usage: python3 tools/model single SETUP CAPTURE CONTROL EGRESS LINES REPLIES
+       python3 tools/model run SETUP CAPTURE CONTROL EGRESS LINES REPLIES WORKERS
        python3 tools/model trace SETUP CAPTURE CONTROL TRACE
        python3 tools/model paths SETUP CONTROL
        python3 tools/model announce SETUP PEER ROUTES MADE
@@ -14,8 +15,11 @@ For people, not for the gate. It shares no code with the program: where both agr
 misled by the same sentence. Stored outputs of rows are taken from it, never from the program. It reads whole
 files, works on whole lists and is slow. A setup and a routes text are taken to be right, and words are not checked.
 
+What `run` writes hangs on how its threads meet wherever a frame that asks a table has a round that changes the table; there the model says so and
+writes nothing.
+
 `example` makes the capture and the control file of a folder with a setup and routes, as `examples/chain`. `rows` writes rows of
-`single` and `generate` for crates/command_rows, and what they must print. `check` tries the model on cases that were worked by hand. The exit status is that of the command that it speaks for, and behind a
+`single`, `generate`, the conversions of pcapng files and `run` for crates/command_rows, and what they must print. `check` tries the model on cases that were worked by hand. The exit status is that of the command that it speaks for, and behind a
 refused capture or control file the place and the reason stand on standard error.
 """
 import sys
@@ -31,6 +35,7 @@ import runs
 import setups
 
 STATUS = {"capture": 5, "control": 6}
+UNDETERMINED = 1
 
 
 def read(name):
@@ -54,12 +59,24 @@ def ended(fault):
     return STATUS[fault[0]]
 
 
-def single(setup, capture, control, egress, lines, replies):
-    run = runs.Single(setups.read(text(setup)), read(capture), read(control))
+def write_run(run, egress, lines, replies):
     write(egress, run.egress())
     write(lines, run.lines())
     write(replies, run.reply_file())
     return ended(run.fault)
+
+
+def single(setup, capture, control, egress, lines, replies):
+    return write_run(runs.Single(setups.read(text(setup)), read(capture), read(control)), egress, lines, replies)
+
+
+def threaded(setup, capture, control, egress, lines, replies, workers):
+    try:
+        run = runs.Threaded(setups.read(text(setup)), read(capture), read(control), int(workers))
+    except runs.Undetermined as fault:
+        print("model:", fault, file=sys.stderr)
+        return UNDETERMINED
+    return write_run(run, egress, lines, replies)
 
 
 def trace(setup, capture, control, packets):
@@ -98,7 +115,7 @@ def make_rows(name, printed):
 
 
 COMMANDS = {
-    "single": single, "trace": trace, "paths": paths, "announce": announce, "generate": generate, "example": make_example,
+    "single": single, "run": threaded, "trace": trace, "paths": paths, "announce": announce, "generate": generate, "example": make_example,
     "rows": make_rows, "check": checks.check,
 }
 

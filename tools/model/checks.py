@@ -115,6 +115,23 @@ def at_positions():
     yield said(single(inputs.SETUP, counted_capture(10), late)), none + missing[:4] + tagged
 
 
+def on_workers():
+    """The run on several workers is the single run but for the workers, where no frame that asks a table has a round that changes it."""
+    by_hand = {3: "0000111222", 4: "0001112233", 16: "0123456789"}
+    for workers, shared in by_hand.items():
+        run = runs.Threaded(setups.read(inputs.SETUP), counted_capture(10), joined(chain_control()), workers)
+        yield "".join(str(record.worker) for record in run.records), shared
+        alone = single(inputs.SETUP, counted_capture(10), chain_control())
+        yield (run.egress(), run.reply_file()), (alone.egress(), alone.reply_file())
+        yield [line.split(" ", 2)[2] for line in said(run)], [line.split(" ", 2)[2] for line in said(alone)]
+    late = [*chain_control()[:3], controls.Segment(controls.BYTES, 1, 0, 3, chain_control()[6].data)]
+    try:
+        found = runs.Threaded(setups.read(inputs.SETUP), counted_capture(10), joined(late), 1).version
+    except runs.Undetermined as fault:
+        found = str(fault)
+    yield found, "frame 3 may meet any of the versions 0 to 1"
+
+
 def two_hops():
     path = "sfpr 0000fde80000002a 42 - 255=44:0000fde800000004 250=44:0000fde800000004\n"
     segments = opened() + updates(instances("4") + path)
@@ -161,7 +178,7 @@ def summaries():
     yield (words[0], words[-1]), ("frames=65", "last-version=5")
 
 
-CASES = (announces, versions, a_chain, at_positions, two_hops, sessions, faults, summaries)
+CASES = (announces, versions, a_chain, at_positions, on_workers, two_hops, sessions, faults, summaries)
 
 
 def check():

@@ -1,4 +1,4 @@
-"""Rows of the commands `single` and `generate`, and of both for pcapng files, for crates/command_rows, and what each must print."""
+"""Rows of the commands `single`, `generate` and `run`, and of both for pcapng files, for crates/command_rows, and what each must print."""
 import pathlib
 import re
 
@@ -82,7 +82,14 @@ class Rows:
     def single(self, setup, capture, control, piece=65536):
         self.show(f"desk {piece} {ROOM}")
         self.show(f"sfc single {setup} {capture} {control} e l r")
-        run = runs.Single(setups.read(self.files[setup].decode()), self.files[capture], self.files[control])
+        self.told(runs.Single(setups.read(self.files[setup].decode()), self.files[capture], self.files[control]))
+
+    def run(self, setup, capture, control, workers, piece=65536):
+        self.show(f"desk {piece} {ROOM}")
+        self.show(f"sfc run {setup} {capture} {control} e l r {workers}")
+        self.told(runs.Threaded(setups.read(self.files[setup].decode()), self.files[capture], self.files[control], workers))
+
+    def told(self, run):
         status = "ok 0" if run.fault is None else " ".join(map(str, run.fault)) + f" {5 if run.fault[0] == 'capture' else 6}"
         self.printed.append(f"  {status}")
         for name, data in (("egress", run.egress()), ("lines", run.lines()), ("replies", run.reply_file())):
@@ -305,8 +312,76 @@ def generated(rows):
         rows.refused(f"sfc {row}", "words 2")
 
 
+def settled(segments, count):
+    """The same segments and, behind those of each cut between the first frame and the end, 256 of no bytes: so no frame's round has one of the first."""
+    for number, said in enumerate(segments):
+        yield said
+        last_of_cut = number + 1 == len(segments) or segments[number + 1].position != said.position
+        if last_of_cut and 0 < said.position < count:
+            yield from [segment(said.position, b"", moment=said.moment)] * runs.ROUND
+
+
+def run_story(rows):
+    rows.say("# `run` over the example. Behind each change stand 256 segments of no bytes, so that it is made in a round before that of its frames, and which version")
+    rows.say("# a lookup meets does not hang on the threads. The single run over the same files, and the run on 1, 2, 3 and 16 workers: but for the workers they are one.")
+    segments, _ = controls.read(rows.files["single-changes"], {1})
+    rows.file("run-changes", checks.joined(settled(segments, 8)))
+    rows.single("single-chain", "single-frames", "run-changes")
+    for workers in (1, 2, 3, 16):
+        rows.run("single-chain", "single-frames", "run-changes", workers)
+    rows.run("single-chain", "single-frames", "run-changes", 3, piece=7)
+
+
+def run_shares(rows):
+    rows.say("# Shares of ten frames, of a round of 256 frames and one of 2; one frame for many workers, none; a frame for each reason to drop one.")
+    rows.say("frames run-k258 258")
+    rows.files["run-k258"] = checks.counted_capture(258)
+    for capture, control, counts in (("single-k10", "single-a1", (3, 4)), ("run-k258", "single-none", (3,)), ("single-nano", "single-a1", (2,)),
+                                     ("single-telnet", "single-a1", (16,)), ("single-k0", "single-none", (1,)), ("single-k0", "single-a1", (16,))):
+        for workers in counts:
+            rows.run("single-s1", capture, control, workers)
+    rows.run("single-reasons", "single-ports", "single-all", 4)
+    rows.run("single-two-peers", "single-nano", "single-hostile", 2)
+
+
+def run_faults(rows):
+    rows.say("# A capture that is cut in its third frame, a control file that is refused, both; a capture and a control file without a front; a setup that is none.")
+    announced = checks.chain_control()
+    for at in (1, 2):
+        changes = checks.joined(settled([*announced[:3], segment(at, announced[6].data)], 3))
+        rows.file(f"run-at-{at}", changes)
+        rows.file(f"run-at-{at}-bad", changes + b"\4")
+        rows.run("single-s1", "single-k3-cut", f"run-at-{at}", 2)
+        rows.run("single-s1", "single-k3", f"run-at-{at}-bad", 2)
+        rows.run("single-s1", "single-k3-cut", f"run-at-{at}-bad", 2)
+    rows.run("single-s1", "single-k3-cut", "single-at-3-bad", 2)
+    rows.run("single-s1", "single-bad-magic", "single-a1", 2)
+    rows.run("single-s1", "single-k1", "single-peer-9", 2)
+    rows.run("single-s1", "single-bad-magic", "single-peer-9", 2)
+    rows.refused("sfc run single-k0 nothing nothing e l r 2", "setup 1 byte 4")
+    rows.say("# Each call fails in turn, on one worker.")
+    rows.show("fails 7 600 run single-s1 single-nano single-a1 e l r 1")
+    rows.printed += [f"  file {port} 3" for port in ("setup", "capture", "control", "egress", "lines", "replies")] + ["  ok 0"]
+
+
+def run_words(rows):
+    rows.say("# Words of `run`, and files that are not there.")
+    for workers in ("", " 0", " 17", " 01", " \"\"", " 1 x", " one", " -1", " 18446744073709551617"):
+        rows.refused(f"sfc run single-s1 single-k1 single-a1 e l r{workers}", "words 2")
+    for files in ("single-s1 single-k1 single-a1 e e r", "single-s1 single-k1 single-a1 e l single-a1", "single-s1 single-k1 single-a1 \"\" l r"):
+        rows.refused(f"sfc run {files} 1", "words 2")
+    rows.refused("sfc run", "words 2")
+    for files, port in (("nothing single-k1 single-a1", "setup"), ("single-s1 nothing single-a1", "capture"), ("single-s1 single-k1 nothing", "control")):
+        rows.refused(f"sfc run {files} e l r 1", f"file {port} 3")
+
+
+PARTS = (story, chain, positions, reasons, empty, cuts, both_bad, groups, peers, cuts_of_the_chain, hostile, failing_calls, streams, words, generated, pcapngs.converted)
+RUN_PARTS = (run_story, run_shares, run_faults, run_words)
+
+
 def all_rows():
+    """All rows; those of `run` stand behind rows of the crate that are written by hand."""
     rows = Rows()
-    for part in (story, chain, positions, reasons, empty, cuts, both_bad, groups, peers, cuts_of_the_chain, hostile, failing_calls, streams, words, generated, pcapngs.converted):
+    for part in PARTS + RUN_PARTS:
         part(rows)
     return rows

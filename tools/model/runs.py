@@ -1,4 +1,4 @@
-"""Runs on one thread: the rounds of a capture and a control file, what counts of them, and what is written."""
+"""Runs on one thread or on several: the rounds of a capture and a control file, what counts of them, and what is written."""
 import captures
 import controls
 import sessions
@@ -69,6 +69,10 @@ class Controller:
             told(self.version, self.table)
 
 
+class Undetermined(Exception):
+    """A frame whose record the formats alone do not say."""
+
+
 class Single:
     """The single run: a record for each frame, and what goes out."""
 
@@ -78,13 +82,23 @@ class Single:
         self.records, self.left, self.trace = [], [], []
         controller = Controller(setup)
         for segments, begin, end in counted.rounds:
+            opening = controller.version
             for segment in segments:
                 controller.take(segment)
-            for frame in counted.frames[begin:end]:
+            for worker, frame in zip(self.workers_of(end - begin), counted.frames[begin:end]):
                 record, left = walks.forward(setup, controller.table, controller.version, frame, self.trace)
+                record.worker = worker
+                self.judge(record, opening, controller.version)
                 self.records.append(record)
                 self.left.append(left)
         self.replies, self.version = controller.replies, controller.version
+
+    def workers_of(self, count):
+        """The worker of each frame of a round."""
+        return [0] * count
+
+    def judge(self, record, opening, last):
+        """A record names the last version of its round."""
 
     def of_frames(self, frames):
         if self.form is None:
@@ -102,6 +116,25 @@ class Single:
 
     def packets(self):
         return self.of_frames(self.trace)
+
+
+class Threaded(Single):
+    """The run on several workers, where there is one: no frame that asks a table has a round that changes the table.
+
+    The first workers have the longer shares. The formats say only that sizes differ by at most 1, so the worker's number is this one choice of theirs.
+    """
+
+    def __init__(self, setup, capture, control, workers):
+        self.workers = workers
+        super().__init__(setup, capture, control)
+
+    def workers_of(self, count):
+        each, longer = divmod(count, self.workers)
+        return [worker for worker in range(self.workers) for _ in range(each + (worker < longer))]
+
+    def judge(self, record, opening, last):
+        if record.versions and opening != last:
+            raise Undetermined(f"frame {len(self.records)} may meet any of the versions {opening} to {last}")
 
 
 def paths(setup, control):

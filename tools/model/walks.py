@@ -10,13 +10,13 @@ class Record:
     """What became of a frame."""
 
     def __init__(self, end, path=None):
-        self.path, self.versions, self.visits, self.end = path, [], [], end
+        self.path, self.versions, self.visits, self.end, self.worker = path, [], [], end, 0
 
     def line(self, number):
         path = "-" if self.path is None else self.path
         versions = ",".join(str(version) for version in self.versions) or "-"
         visits = ",".join(self.visits) or "-"
-        return f"{number} worker=0 path={path} versions={versions} visits={visits} end={self.end}\n"
+        return f"{number} worker={self.worker} path={path} versions={versions} visits={visits} end={self.end}\n"
 
 
 def item(class_and_kind, body):
