@@ -3,6 +3,7 @@
 
 usage: python3 tools/model single SETUP CAPTURE CONTROL EGRESS LINES REPLIES
        python3 tools/model run SETUP CAPTURE CONTROL EGRESS LINES REPLIES WORKERS
+       python3 tools/model told SETUP CAPTURE CONTROL EGRESS LINES REPLIES WORKERS
        python3 tools/model trace SETUP CAPTURE CONTROL TRACE
        python3 tools/model paths SETUP CONTROL
        python3 tools/model announce SETUP PEER ROUTES MADE
@@ -16,7 +17,8 @@ misled by the same sentence. Stored outputs of rows are taken from it, never fro
 files, works on whole lists and is slow. A setup and a routes text are taken to be right, and words are not checked.
 
 What `run` writes hangs on how its threads meet wherever a frame that asks a table has a round that changes the table; there the model says so and
-writes nothing.
+writes nothing. `told` reads all six files, and says whether the last three are what some run on so many workers writes that comes to its end, or what is
+not: a line by its number, the egress or the replies. Then the status is 9.
 
 `example` makes the capture and the control file of a folder with a setup and routes, as `examples/chain`. `rows` writes rows of
 `single`, `generate`, the conversions of pcapng files and `run` for crates/command_rows, and what they must print. `check` tries the model on cases that were worked by hand. The exit status is that of the command that it speaks for, and behind a
@@ -35,7 +37,7 @@ import runs
 import setups
 
 STATUS = {"capture": 5, "control": 6}
-UNDETERMINED = 1
+UNDETERMINED, DIFFERS = 1, 9
 
 
 def read(name):
@@ -79,6 +81,18 @@ def threaded(setup, capture, control, egress, lines, replies, workers):
     return write_run(run, egress, lines, replies)
 
 
+def told(setup, capture, control, egress, lines, replies, workers):
+    try:
+        run = runs.Told(setups.read(text(setup)), read(capture), read(control), read(lines), int(workers))
+        for name, file, data in (("egress", egress, run.egress()), ("replies", replies, run.reply_file())):
+            if read(file) != data:
+                raise runs.Differs(name)
+    except runs.Differs as what:
+        print("model: differs", what, file=sys.stderr)
+        return DIFFERS
+    return ended(run.fault)
+
+
 def trace(setup, capture, control, packets):
     run = runs.Single(setups.read(text(setup)), read(capture), read(control))
     write(packets, run.packets())
@@ -115,7 +129,7 @@ def make_rows(name, printed):
 
 
 COMMANDS = {
-    "single": single, "run": threaded, "trace": trace, "paths": paths, "announce": announce, "generate": generate, "example": make_example,
+    "single": single, "run": threaded, "told": told, "trace": trace, "paths": paths, "announce": announce, "generate": generate, "example": make_example,
     "rows": make_rows, "check": checks.check,
 }
 

@@ -132,6 +132,43 @@ def on_workers():
     yield found, "frame 3 may meet any of the versions 0 to 1"
 
 
+def told(lines, workers, setup, count, segments):
+    """None where the lines are those of a run, else what differs."""
+    text = "".join(f"{number} {line}\n" for number, line in enumerate(lines)).encode()
+    try:
+        runs.Told(setups.read(setup), counted_capture(count), joined(segments), text, workers)
+    except runs.Differs as what:
+        return str(what)
+    return None
+
+
+def of_some_run():
+    """Routes at positions on threads: what a round makes, its frames may meet or not; what rounds before made, they meet."""
+    line = "worker={} path=42 versions={} visits={} end={}".format
+    none = [line(worker, 0, "-", "drop:no-path") for worker in range(2)]
+    missing = [line(worker, 1, "-", "drop:no-instance(255)") for worker in range(2)]
+    tagged = [line(worker, "2,2", "vlan", "drop:no-instance(254)") for worker in range(2)]
+    late = [*chain_control()[:3], controls.Segment(controls.BYTES, 1, 0, 3, chain_control()[6].data)]
+    for lines, workers, wanted in (
+            ([none[0]] * 10, 1, None), ([none[0]] * 3 + [missing[0]] * 7, 1, None), ([none[0]] * 5 + [missing[0]] * 5, 1, None),
+            ([none[0]] * 3 + [missing[0]] * 3 + [none[1]] * 4, 2, None), ([none[0]] * 3 + [missing[0]] * 3 + [none[0]] * 4, 1, "line 6"),
+            ([none[0]] * 2 + [missing[0]] * 8, 1, "line 2"), ([none[0]] * 9 + [none[1]], 1, "line 9"), ([none[0]] * 9, 1, "line 9"),
+            ([none[0]] * 11, 1, "line 10"), ([none[0]] * 9 + [line(0, 1, "-", "drop:no-path")], 1, "line 9"),
+            ([none[0]] * 9 + [line(0, "0,0", "-", "drop:no-path")], 1, "line 9"), ([none[0]] * 9 + [line(0, "00", "-", "drop:no-path")], 1, "line 9")):
+        yield told(lines, workers, inputs.SETUP, 10, late), wanted
+    later = late + [controls.Segment(controls.BYTES, 1, 0, 7, chain_control()[5].data)]
+    for lines, wanted in (
+            ([none[0]] * 7 + [missing[0]] * 3, None), ([none[0]] * 7 + [missing[0]] + [tagged[0]] * 2, None), ([none[0]] * 7 + [tagged[0]] * 2 + [missing[1]], None),
+            ([none[0]] * 8 + [missing[0]] * 2, "line 7"), ([none[0]] * 7 + [tagged[0]] * 2 + [missing[0]], "line 9"),
+            ([none[0]] * 6 + [tagged[0]] * 4, "line 6"), ([none[0]] * 7 + [line(0, "1,2", "vlan", "drop:no-instance(254)")] * 3, "line 7")):
+        yield told(lines, 2, inputs.SETUP, 10, later), wanted
+    path = "sfpr 0000fde80000002a 42 - 255=44:0000fde800000004 250=44:0000fde800000004\n"
+    again = opened() + updates(instances("4") + path) + updates(path, position=1) * 2
+    passed = "worker=0 path=42 versions={} visits=p,p end=egress".format
+    for versions, wanted in (("2,2,2", None), ("2,3,4", None), ("2,4,4", None), ("4,4,4", None), ("3,2,4", "line 1"), ("1,2,3", "line 1"), ("4,4,5", "line 1")):
+        yield told([passed("2,2,2"), passed(versions)], 1, THREE, 2, again), wanted
+
+
 def two_hops():
     path = "sfpr 0000fde80000002a 42 - 255=44:0000fde800000004 250=44:0000fde800000004\n"
     segments = opened() + updates(instances("4") + path)
@@ -178,7 +215,7 @@ def summaries():
     yield (words[0], words[-1]), ("frames=65", "last-version=5")
 
 
-CASES = (announces, versions, a_chain, at_positions, on_workers, two_hops, sessions, faults, summaries)
+CASES = (announces, versions, a_chain, at_positions, on_workers, of_some_run, two_hops, sessions, faults, summaries)
 
 
 def check():

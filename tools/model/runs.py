@@ -1,4 +1,6 @@
 """Runs on one thread or on several: the rounds of a capture and a control file, what counts of them, and what is written."""
+import re
+
 import captures
 import controls
 import sessions
@@ -6,6 +8,7 @@ import tables
 import walks
 
 ROUND = 256
+LINE = re.compile(rb"[0-9]+ worker=([0-9]+) path=[^ ]+ versions=([0-9]+(?:,[0-9]+)*|-) ")
 
 
 def rounds(count, segments):
@@ -52,11 +55,11 @@ def before_last(all_rounds, segments):
 
 
 class Controller:
-    """The sessions with the peers, the versions of the table so far, and the replies."""
+    """The sessions with the peers, the table of each version so far, and the replies."""
 
     def __init__(self, setup):
         self.setup, self.sessions, self.routes = setup, sessions.Sessions(setup), tables.Routes()
-        self.version, self.table, self.replies = 0, {}, []
+        self.version, self.tables, self.replies = 0, [{}], []
 
     def take(self, segment, told=lambda version, table: None):
         reply, changes = self.sessions.step(segment)
@@ -65,12 +68,16 @@ class Controller:
         for change in changes:
             self.routes.apply(change)
             self.version += 1
-            self.table = tables.table_of(self.setup, self.routes)
-            told(self.version, self.table)
+            self.tables.append(tables.table_of(self.setup, self.routes))
+            told(self.version, self.tables[-1])
 
 
 class Undetermined(Exception):
     """A frame whose record the formats alone do not say."""
+
+
+class Differs(Exception):
+    """What is the record of no run."""
 
 
 class Single:
@@ -86,9 +93,7 @@ class Single:
             for segment in segments:
                 controller.take(segment)
             for worker, frame in zip(self.workers_of(end - begin), counted.frames[begin:end]):
-                record, left = walks.forward(setup, controller.table, controller.version, frame, self.trace)
-                record.worker = worker
-                self.judge(record, opening, controller.version)
+                record, left = self.forward(controller, opening, worker, frame)
                 self.records.append(record)
                 self.left.append(left)
         self.replies, self.version = controller.replies, controller.version
@@ -97,8 +102,11 @@ class Single:
         """The worker of each frame of a round."""
         return [0] * count
 
-    def judge(self, record, opening, last):
-        """A record names the last version of its round."""
+    def forward(self, controller, opening, worker, frame):
+        """The record of a frame, which names the last version of its round, and the frame as its walk leaves it."""
+        record, left = walks.forward(controller.setup, lambda: (controller.version, controller.tables[-1]), frame, self.trace)
+        record.worker = worker
+        return record, left
 
     def of_frames(self, frames):
         if self.form is None:
@@ -132,9 +140,39 @@ class Threaded(Single):
         each, longer = divmod(count, self.workers)
         return [worker for worker in range(self.workers) for _ in range(each + (worker < longer))]
 
-    def judge(self, record, opening, last):
-        if record.versions and opening != last:
-            raise Undetermined(f"frame {len(self.records)} may meet any of the versions {opening} to {last}")
+    def forward(self, controller, opening, worker, frame):
+        record, left = super().forward(controller, opening, worker, frame)
+        if record.versions and opening != controller.version:
+            raise Undetermined(f"frame {len(self.records)} may meet any of the versions {opening} to {controller.version}")
+        return record, left
+
+
+class Told(Single):
+    """The run on so many workers that lines tell: each frame walks over the versions that its line names. A line that no run has differs."""
+
+    def __init__(self, setup, capture, control, lines, workers):
+        self.told, self.workers, self.seen = lines.splitlines(keepends=True), workers, {}
+        super().__init__(setup, capture, control)
+        if len(self.told) != len(self.records):
+            raise Differs(f"line {len(self.records)}")
+
+    def forward(self, controller, opening, worker, frame):
+        number = len(self.records)
+        said = LINE.match(self.told[number]) if number < len(self.told) else None
+        if said is None:
+            raise Differs(f"line {number}")
+        worker, versions = int(said[1]), [int(version) for version in said[2].split(b",") if version != b"-"]
+        climb = [max(opening, self.seen.get(worker, 0)), *versions, controller.version]
+        if worker >= self.workers or (versions and climb != sorted(climb)):
+            raise Differs(f"line {number}")
+        named = [(version, controller.tables[version]) for version in versions]
+        record, left = walks.forward(controller.setup, lambda: named.pop(0) if named else (controller.version, {}), frame)
+        record.worker = worker
+        if record.line(number).encode() != self.told[number]:
+            raise Differs(f"line {number}")
+        if versions:
+            self.seen[worker] = versions[-1]
+        return record, left
 
 
 def paths(setup, control):

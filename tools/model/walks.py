@@ -133,24 +133,25 @@ def handed(frame, packet, here, there):
     return captures.Frame(frame.seconds, frame.fraction, packet.original + len(head), head + packet.data)
 
 
-def forward(setup, table, version, frame, trace=None):
-    """The record of a frame over one table, and the frame as its walk leaves it."""
+def forward(setup, ask, frame, trace=None):
+    """The record of a frame over the version and its table that each asking gives, and the frame as its walk leaves it."""
     found = verdict(setup, frame.data)
     if found[0] != "path":
         end = {"bypass": "bypass", "refuse": "drop:rule", "nsh-ingress": "drop:nsh-ingress"}[found[0]]
         return Record(end), frame
     packet, record, here = Packet(frame, *found[1:]), Record(None, found[1]), setup.ingress
     while record.end is None:
-        here = turn(setup, table, version, frame, packet, record, here, trace)
+        here = turn(setup, ask, frame, packet, record, here, trace)
     return record, captures.Frame(frame.seconds, frame.fraction, packet.original, packet.data)
 
 
-def turn(setup, table, version, frame, packet, record, here, trace):
+def turn(setup, ask, frame, packet, record, here, trace):
     """One turn of a forwarder; the forwarder of the next."""
     packet.ttl = 63 if packet.ttl == 0 else packet.ttl - 1
     if packet.ttl == 0:
         record.end = "drop:ttl"
         return here
+    version, table = ask()
     record.versions.append(version)
     if packet.spi not in table:
         record.end = "drop:no-path"
