@@ -282,9 +282,13 @@ def streams(rows):
     capture = rows.files["single-k600"] = checks.counted_capture(600)
     rows.show(f"desk 65536 {ROOM} 13")
     rows.show("sfc single single-s2 single-k600 single-none e l r")
-    run = runs.Single(setups.read(rows.files["single-s2"].decode()), capture, b"")
+    two_rounds(rows, runs.Single(setups.read(rows.files["single-s2"].decode()), capture, b""))
+
+
+def two_rounds(rows, run):
+    """The file header and the lines of two rounds, and that the capture's port failed."""
     lines = b"".join(run.lines().splitlines(keepends=True)[:512])
-    rows.printed += ["  file capture 3", f"  egress {capture[:24].hex()}", f"  lines {lines.hex()}"]
+    rows.printed += ["  file capture 3", f"  egress {rows.files['single-k600'][:24].hex()}", f"  lines {lines.hex()}"]
 
 
 def words(rows):
@@ -366,7 +370,7 @@ def run_faults(rows):
 
 def run_words(rows):
     rows.say("# Words of `run`, and files that are not there.")
-    for workers in ("", " 0", " 17", " 01", " \"\"", " 1 x", " one", " -1", " 18446744073709551617"):
+    for workers in ("", " 0", " 17", " 01", " \"\"", " 1 x", " one", " -1", " 4294967297", " 18446744073709551617"):
         rows.refused(f"sfc run single-s1 single-k1 single-a1 e l r{workers}", "words 2")
     for files in ("single-s1 single-k1 single-a1 e e r", "single-s1 single-k1 single-a1 e l single-a1", "single-s1 single-k1 single-a1 \"\" l r"):
         rows.refused(f"sfc run {files} 1", "words 2")
@@ -375,8 +379,25 @@ def run_words(rows):
         rows.refused(f"sfc run {files} e l r 1", f"file {port} 3")
 
 
+def run_streams(rows):
+    rows.say("# The same 600 frames on 3 workers: two rounds are told before the last read of the capture, which fails.")
+    rows.show(f"desk 65536 {ROOM} 13")
+    rows.show("sfc run single-s2 single-k600 single-none e l r 3")
+    two_rounds(rows, runs.Threaded(setups.read(rows.files["single-s2"].decode()), rows.files["single-k600"], b"", 3))
+
+
+def run_groups(rows):
+    rows.say("# Groups of 256 segments: before the first frame, with a bad byte behind them; at the frames 3 and 7, with a change in the first. And changes beyond the capture.")
+    for control in ("single-256", "single-257"):
+        rows.run("single-s1", "single-k1", control, 2)
+    announced = checks.chain_control()
+    late = [*announced[:3], segment(3, announced[6].data), segment(7, announced[5].data), segment(11, announced[4].data), segment(300, announced[3].data)]
+    rows.file("run-beyond", checks.joined(settled(late, 10)))
+    rows.run("single-s1", "single-k10", "run-beyond", 4)
+
+
 PARTS = (story, chain, positions, reasons, empty, cuts, both_bad, groups, peers, cuts_of_the_chain, hostile, failing_calls, streams, words, generated, pcapngs.converted)
-RUN_PARTS = (run_story, run_shares, run_faults, run_words)
+RUN_PARTS = (run_story, run_shares, run_faults, run_words, run_streams, run_groups)
 
 
 def all_rows():
