@@ -39,8 +39,10 @@ use Rattle.control_histories.specs.Logs.{AreOfPeers}
 use Rattle.worker_run.proofs.OneSaying.{OneLog}
 use Rattle.file_runs.specs.RunTexts.{AreRuns, RunOf, RunWrites}
 use Rattle.file_runs.specs.FileRuns.{AsksTheEnd, BothAsk, CaptureIsLong, ControlIsLong, FileAnswers, FileEnds, FileFronts, FileRefused, FileWants, FileWorks, HasCapture, HasLongInput, HaveInputs, InputsAsk, IsRunPort, RunFiles, RunsOf, Stopping, TookFrontsOfSome, WasReadTo, run_ports, status_of_end}
-use Rattle.file_runs.specs.RunSteps.{EndedAt, PutAll, PutFronts, Stopped, StreamWorks, Texts, capture_of, control_of, named_by, nothing_more, texts_of}
-use Rattle.file_runs.proofs.WriteLemmas.{Fronts, fronts_of, fronts_of_some, outputs_of, written_there}
+use Rattle.file_runs.specs.Means.{PutAll, PutFronts}
+use Rattle.file_runs.specs.RunPuts.{OutsAll, OutsFronts, Texts, nothing_more, outputs_of, run_means, texts_of}
+use Rattle.file_runs.specs.RunSteps.{EndedAt, Stopped, StreamWorks, capture_of, control_of, named_by}
+use Rattle.file_runs.proofs.WriteLemmas.{Fronts, fronts_of, fronts_of_some, written_there}
 
 -- ---- words and ports
 
@@ -121,7 +123,7 @@ put_at : (then now : Shown) (part : List ℕ) → now.binds ≡ raised then.bind
 put_at then now part binds written = inl (binds, written)
 
 -- the three outputs took their bytes of a run
-took_all : (files : RunFiles) (tells : Bool) (then now : Port → Shown) (texts : Texts) (out : Outputs) → OpensAll (run_ports files) tells then now → PutAll now texts
+took_all : (files : RunFiles) (tells : Bool) (then now : Port → Shown) (texts : Texts) (out : Outputs) → OpensAll (run_ports files) tells then now → OutsAll now texts
     → texts.egress ≡ out ports.Egress → texts.lines ≡ out ports.Lines → texts.replies ≡ out ports.Replies → TookAll (run_ports files) then now out
 took_all files tells then now texts out opened put egress lines replies =
     let at_egress = opened.1.1.1.0 in
@@ -185,6 +187,18 @@ pub record HeldAre (files : RunFiles) (held : Files) (mid : Port → Shown) : Ty
 abbrev have_inputs : (files : RunFiles) (held : Files) (mid : Port → Shown) → HeldAre files held mid → HaveInputs files held
 have_inputs files held mid are = record { capture = capture_of mid; control = control_of mid; capture_there = are.capture; control_there = are.control }
 
+-- what the outputs took, port by port, is what the three took
+all_three : (says : Says Record) (setup : Parts) (now : Port → Shown) (texts : Texts) → PutAll (run_means says setup) now (outputs_of texts) → OutsAll now texts
+all_three says setup now texts put = record { egress = put ports.Egress (inl refl); lines = put ports.Lines (inr (inl refl)); replies = put ports.Replies (inr (inr refl)) }
+
+fronts_three : (says : Says Record) (setup : Parts) (now : Port → Shown) (texts : Texts) → PutFronts (run_means says setup) now (outputs_of texts) → OutsFronts now texts
+fronts_three says setup now texts put = record { egress = put ports.Egress (inl refl); lines = put ports.Lines (inr (inl refl)); replies = put ports.Replies (inr (inr refl)) }
+
+nothing_all : (says : Says Record) (setup : Parts) (now : Port → Shown) → PutAll (run_means says setup) now none_put → PutAll (run_means says setup) now (outputs_of nothing_more)
+nothing_all says setup now put port (inl is) = put port (inl is) ∙ ap none_put is ∙ sym (ap (outputs_of nothing_more) is)
+nothing_all says setup now put port (inr (inl is)) = put port (inr (inl is)) ∙ ap none_put is ∙ sym (ap (outputs_of nothing_more) is)
+nothing_all says setup now put port (inr (inr is)) = put port (inr (inr is)) ∙ ap none_put is ∙ sym (ap (outputs_of nothing_more) is)
+
 -- what a run writes for the files under the names, it writes for what was bound
 bound_writes : (Is : RunOf) (files : RunFiles) (setup : Parts) (held : Files) (mid : Port → Shown) (end : RunEnd) (out : Outputs) (there : HaveInputs files held) → HeldAre files held mid → RunWrites Is setup there.capture there.control end out
     → RunWrites Is setup (capture_of mid) (control_of mid) end out
@@ -193,10 +207,10 @@ bound_writes Is files setup held mid end out there are writes =
     let control : there.control ≡ control_of mid = one_input (held files.control) there.control (control_of mid) there.control_there are.control in
     subst (λ (l : List ℕ). RunWrites Is setup l (control_of mid) end out) capture (subst (λ (l : List ℕ). RunWrites Is setup there.capture l end out) control writes)
 
-nothing_took : (files : RunFiles) (tells : Bool) (then now : Port → Shown) → OpensAll (run_ports files) tells then now → PutAll now nothing_more → TookAll (run_ports files) then now none_put
+nothing_took : (files : RunFiles) (tells : Bool) (then now : Port → Shown) → OpensAll (run_ports files) tells then now → OutsAll now nothing_more → TookAll (run_ports files) then now none_put
 nothing_took files tells then now opened put = took_all files tells then now nothing_more none_put opened put refl refl refl
 
-took_over : (files : RunFiles) (tells : Bool) (then now : Port → Shown) (texts : Texts) (out : Outputs) → OpensAll (run_ports files) tells then now → PutFronts now texts → Fronts texts out → TookFronts (run_ports files) then now out
+took_over : (files : RunFiles) (tells : Bool) (then now : Port → Shown) (texts : Texts) (out : Outputs) → OpensAll (run_ports files) tells then now → OutsFronts now texts → Fronts texts out → TookFronts (run_ports files) then now out
 took_over files tells then now texts out opened put before =
     took_fronts files tells then now out opened
     (front_over (now ports.Egress).written texts.egress (out ports.Egress) put.egress before.egress)
@@ -205,29 +219,29 @@ took_over files tells then now texts out opened put before =
 
 -- where of a round one list is said at most, fronts of each run
 pub stops_each : OneLog → (says : Says Record) (Is : RunsOf) (files : RunFiles) (setup : Parts) (tells : Bool) (held : Files) (then mid now : Port → Shown) → (AreParts setup → AreRuns setup says (Is setup)) → (AreParts setup → IsOne says (AreOfPeers setup.peers))
-    → OpensAll (run_ports files) tells then now → HeldAre files held mid → Stopped says setup mid now → FileFronts Is TookFrontsOfEach files setup held then now
-stops_each one_log says Is files setup tells held then mid now runs one opened are (inl nothing) = inl (nothing_took files tells then now opened nothing)
+    → OpensAll (run_ports files) tells then now → HeldAre files held mid → Stopped (run_means says setup) setup mid now → FileFronts Is TookFrontsOfEach files setup held then now
+stops_each one_log says Is files setup tells held then mid now runs one opened are (inl nothing) = inl (nothing_took files tells then now opened (all_three says setup now nothing_more (nothing_all says setup now nothing)))
 stops_each one_log says Is files setup tells held then mid now runs one opened are (inr stopped) =
     inr (λ out some.
     let own = bound_writes (Is setup) files setup held mid some.0 out some.1.there are some.1.writes in
-    took_over files tells then now (texts_of setup stopped.form stopped.passed stopped.history stopped.log stopped.said) out opened stopped.fronts
+    took_over files tells then now (texts_of setup stopped.form stopped.passed stopped.history stopped.log stopped.said) out opened (fronts_three says setup now (texts_of setup stopped.form stopped.passed stopped.history stopped.log stopped.said) stopped.fronts)
     (fronts_of one_log says (Is setup) setup (capture_of mid) (control_of mid) stopped.form stopped.passed stopped.history stopped.log stopped.said some.0 out (runs stopped.so.parts) (one stopped.so.parts) stopped.so own))
 
 -- else fronts of one, where there is any
 pub stops_some : OneLog → (says : Says Record) (Is : RunsOf) (files : RunFiles) (setup : Parts) (tells : Bool) (held : Files) (then mid now : Port → Shown) → (AreParts setup → AreRuns setup says (Is setup))
-    → OpensAll (run_ports files) tells then now → HeldAre files held mid → Stopped says setup mid now → FileFronts Is TookFrontsOfSome files setup held then now
-stops_some one_log says Is files setup tells held then mid now runs opened are (inl nothing) = inl (nothing_took files tells then now opened nothing)
+    → OpensAll (run_ports files) tells then now → HeldAre files held mid → Stopped (run_means says setup) setup mid now → FileFronts Is TookFrontsOfSome files setup held then now
+stops_some one_log says Is files setup tells held then mid now runs opened are (inl nothing) = inl (nothing_took files tells then now opened (all_three says setup now nothing_more (nothing_all says setup now nothing)))
 stops_some one_log says Is files setup tells held then mid now runs opened are (inr stopped) =
     inr (λ out some.
     let own = bound_writes (Is setup) files setup held mid some.0 out some.1.there are some.1.writes in
     let all =
     fronts_of_some one_log says (Is setup) setup (capture_of mid) (control_of mid) stopped.form stopped.passed stopped.history stopped.log stopped.said some.0 out (runs stopped.so.parts) stopped.so own in
     fronts all.0 (some.0, record { there = have_inputs files held mid are; writes = all.1 })
-    (took_over files tells then now (texts_of setup stopped.form stopped.passed stopped.history stopped.log stopped.said) all.0 opened stopped.fronts all.2))
+    (took_over files tells then now (texts_of setup stopped.form stopped.passed stopped.history stopped.log stopped.said) all.0 opened (fronts_three says setup now (texts_of setup stopped.form stopped.passed stopped.history stopped.log stopped.said) stopped.fronts) all.2))
 
 -- the outputs took all of what is written, over whatever a reader of both files gets
 ends_so : (says : Says Record) (Is : RunsOf) (files : RunFiles) (setup : Parts) (tells : Bool) (held : Files) (then mid now : Port → Shown) (end : RunEnd) (form : Option Form) (whole : Inputs) → OpensAll (run_ports files) tells then now → HeldAre files held mid
-    → (AreParts setup → AreRuns setup says (Is setup)) → (x : EndedAt says setup mid now end) → AreInputs (capture_of mid) (control_of mid) form (numbers setup.peers) whole → FileEnds Is files setup held end then now
+    → (AreParts setup → AreRuns setup says (Is setup)) → (x : EndedAt (run_means says setup) setup mid now end) → AreInputs (capture_of mid) (control_of mid) form (numbers setup.peers) whole → FileEnds Is files setup held end then now
 ends_so says Is files setup tells held then mid now end form whole opened are runs x read =
     let texts = texts_of setup x.form x.passed x.history x.log x.said in
     let own : AreInputs (capture_of mid) (control_of mid) x.form (numbers setup.peers) whole =
@@ -239,11 +253,11 @@ ends_so says Is files setup tells held then mid now end form whole opened are ru
         writes = written_there says (Is setup) setup (capture_of mid) (control_of mid) x.form x.passed x.history x.log x.said end whole (runs x.so.parts) x.so own (x.ends_so form whole read);
       };
       read = x.read;
-      took = took_all files tells then now texts (outputs_of texts) opened x.all refl refl refl;
+      took = took_all files tells then now texts (outputs_of texts) opened (all_three says setup now texts x.all) refl refl refl;
     }
 
 ends_refused : (says : Says Record) (Is : RunsOf) (files : RunFiles) (setup : Parts) (tells : Bool) (held : Files) (then mid now : Port → Shown) (end : RunEnd) → OpensAll (run_ports files) tells then now → HeldAre files held mid
-    → (AreParts setup → AreRuns setup says (Is setup)) → EndedAt says setup mid now end → FileRefused Is files setup held end then now
+    → (AreParts setup → AreRuns setup says (Is setup)) → EndedAt (run_means says setup) setup mid now end → FileRefused Is files setup held end then now
 ends_refused says Is files setup tells held then mid now end opened are runs x = record {
   there = have_inputs files held mid are;
   ends = λ form whole read. ends_so says Is files setup tells held then mid now end form whole opened are runs x read;
@@ -257,8 +271,8 @@ long_input files held mid port are (inr control) past =
 
 -- what was done on the bound ports, said from before the binds
 pub works_from : (says : Says Record) (Is : RunsOf) (Stops : Stopping) (files : RunFiles) (setup : Parts) (tells : Bool) (held : Files) (then mid now : Port → Shown) (answer : Status) → Opened (run_ports files) tells then mid → NoneBound tells mid now
-    → (tells ≡ true → HeldAre files held mid) → (AreParts setup → AreRuns setup says (Is setup)) → (OpensAll (run_ports files) tells then now → HeldAre files held mid → Stopped says setup mid now → FileFronts Is Stops files setup held then now)
-    → StreamWorks says setup tells mid now answer → FileWorks Is Stops files setup tells held then now answer
+    → (tells ≡ true → HeldAre files held mid) → (AreParts setup → AreRuns setup says (Is setup)) → (OpensAll (run_ports files) tells then now → HeldAre files held mid → Stopped (run_means says setup) setup mid now → FileFronts Is Stops files setup held then now)
+    → StreamWorks (run_means says setup) setup tells mid now answer → FileWorks Is Stops files setup tells held then now answer
 works_from says Is Stops files setup tells held then mid now status.Ok was none are runs stops works =
     let opened = opens_stays (run_ports files) tells then mid now none was.all in (
       opened,
@@ -294,7 +308,7 @@ named_port files port (inr (inr (inl is))) = (files.lines, inr (inr (inr (inr (i
 named_port files port (inr (inr (inr is))) = (files.replies, inr (inr (inr (inr (inr (inl (is, refl)))))))
 
 -- where the run fails with File, a count rose
-pub fails_from : (says : Says Record) (files : RunFiles) (setup : Parts) (tells : Bool) (then now : Port → Shown) (answer : Status) (port : Port) → StreamWorks says setup tells then now answer → answer ≡ status.File port → (name : List ℕ) × HasPort (run_ports files) port name × Rose (then port) (now port)
+pub fails_from : (says : Says Record) (files : RunFiles) (setup : Parts) (tells : Bool) (then now : Port → Shown) (answer : Status) (port : Port) → StreamWorks (run_means says setup) setup tells then now answer → answer ≡ status.File port → (name : List ℕ) × HasPort (run_ports files) port name × Rose (then port) (now port)
 fails_from says files setup tells then now (status.File own) port works is =
     let same : own ≡ port = cc in
     let rose : Rose (then port) (now port) = subst (λ p. Rose (then p) (now p)) same works.0.1 in

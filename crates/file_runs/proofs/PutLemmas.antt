@@ -14,7 +14,8 @@ use Rattle.round_inputs.specs.declared.halts.Halt.TheVariants as halts
 use Rattle.round_inputs.specs.Halts.{Counts, IsPort}
 use Rattle.round_inputs.proofs.HaltLemmas.{counts_after, counts_halt}
 use Rattle.file_runs.specs.declared.run_outputs.RunOutputs.{RunOutputs}
-use Rattle.file_runs.specs.RunSteps.{AreOpen, Finishes, IsOutput, NeverLong, NothingWaits, Put, PutFronts, PutsAt, PutsTexts, Texts, WritesOutputs, halt_of_fault, nothing_more, texts_behind}
+use Rattle.file_runs.specs.Means.{NeverLong, WritesOutputs, halt_of_fault}
+use Rattle.file_runs.specs.RunPuts.{OutsOpen, OutsFinish, IsOutput, NothingWaits, OutsPut, OutsFronts, PutsAt, PutsTexts, Texts, nothing_more, texts_behind}
 
 -- ---- one put
 
@@ -87,14 +88,14 @@ is_replies port is = inr (inr is)
 
 -- ---- what was written to one of them
 
-pub writes_one : (tells : Bool) (own : Port) (had has : Files) (then now : Port → Shown) → IsOutput own → Moves tells own had has then now → WritesOutputs tells had has then now
+pub writes_one : (tells : Bool) (own : Port) (had has : Files) (then now : Port → Shown) → IsOutput own → Moves tells own had has then now → WritesOutputs IsOutput tells had has then now
 writes_one tells own had has then now output moves = record {
   none_bound = none_bound tells own had has then now moves;
   files = moves.files;
   others = λ port outside. moves.elsewhere port (λ is. outside (subst IsOutput (sym is) output));
 }
 
-pub writes_then : (tells : Bool) (a b c : Files) (then mid now : Port → Shown) → WritesOutputs tells a b then mid → WritesOutputs tells b c mid now → WritesOutputs tells a c then now
+pub writes_then : (tells : Bool) (a b c : Files) (then mid now : Port → Shown) → WritesOutputs IsOutput tells a b then mid → WritesOutputs IsOutput tells b c mid now → WritesOutputs IsOutput tells a c then now
 writes_then tells a b c then mid now first more = record {
   none_bound = record {
     binds = λ p. more.none_bound.binds p ∙ first.none_bound.binds p;
@@ -112,7 +113,7 @@ front_still : (written waits text : List ℕ) → written ++ waits ≡ text → 
 front_still written waits text is = (waits, is)
 
 -- what was there is a front of it where nothing more was said
-pub fronts_still : (at : Port → Shown) (outs : RunOutputs) (texts : Texts) → Put at outs texts → PutFronts at texts
+pub fronts_still : (at : Port → Shown) (outs : RunOutputs) (texts : Texts) → OutsPut at outs texts → OutsFronts at texts
 fronts_still at outs texts put = record {
   egress = front_still (at ports.Egress).written outs.egress.bytes texts.egress put.egress;
   lines = front_still (at ports.Lines).written outs.lines.bytes texts.lines put.lines;
@@ -129,7 +130,7 @@ same_written own then now waits text same is = ap (λ (s : Shown). s.written ++ 
 
 -- the egress was not put whole
 pub stops_at_egress : (tells : Bool) (then now : Port → Shown) (had has : Files) (old : RunOutputs) (egress : Waiting) (halt : Halt) (more : Texts)
-    → AreOpen then old → PutsAt tells ports.Egress then now had has old.egress egress (Err halt) more.egress → PutsTexts tells then now had has old (record old { egress = egress }) (Err halt) more
+    → OutsOpen then old → PutsAt tells ports.Egress then now had has old.egress egress (Err halt) more.egress → PutsTexts tells then now had has old (record old { egress = egress }) (Err halt) more
 stops_at_egress tells then now had has old egress halt more ready put =
     let lines = put.moves.elsewhere ports.Lines lines_no_egress in
     let replies = put.moves.elsewhere ports.Replies replies_no_egress in
@@ -155,7 +156,7 @@ stops_at_egress tells then now had has old egress halt more ready put =
 
 -- the egress was, and the lines were not
 pub stops_at_lines : (tells : Bool) (then mid now : Port → Shown) (had has at_last : Files) (old : RunOutputs) (egress lines : Waiting) (text : List ℕ) (halt : Halt) (more : Texts)
-    → AreOpen then old → PutsAt tells ports.Egress then mid had has old.egress egress (Ok tt) more.egress → PutsAt tells ports.Lines mid now has at_last old.lines lines (Err halt) more.lines
+    → OutsOpen then old → PutsAt tells ports.Egress then mid had has old.egress egress (Ok tt) more.egress → PutsAt tells ports.Lines mid now has at_last old.lines lines (Err halt) more.lines
     → PutsTexts tells then now had at_last old (record old { egress = egress; lines = lines; text = text }) (Err halt) more
 stops_at_lines tells then mid now had has at_last old egress lines text halt more ready first put =
     let own_lines = first.moves.elsewhere ports.Lines lines_no_egress in
@@ -192,7 +193,7 @@ on_put (Err e) P Q f p = tt
 
 -- both were, and then the replies, or a front of them
 pub puts_all : (tells : Bool) (then mid more_mid now : Port → Shown) (had has had_more at_last : Files) (old : RunOutputs) (egress lines replies : Waiting) (text : List ℕ) (r : Result (Unit {0}) Halt) (more : Texts)
-    → AreOpen then old → PutsAt tells ports.Egress then mid had has old.egress egress (Ok tt) more.egress → PutsAt tells ports.Lines mid more_mid has had_more old.lines lines (Ok tt) more.lines
+    → OutsOpen then old → PutsAt tells ports.Egress then mid had has old.egress egress (Ok tt) more.egress → PutsAt tells ports.Lines mid more_mid has had_more old.lines lines (Ok tt) more.lines
     → PutsAt tells ports.Replies more_mid now had_more at_last old.replies replies r more.replies
     → PutsTexts tells then now had at_last old (record { egress = egress; lines = lines; replies = replies; text = text }) r more
 puts_all tells then mid more_mid now had has had_more at_last old egress lines replies text r more ready first second put =
@@ -235,7 +236,7 @@ puts_all tells then mid more_mid now had has had_more at_last old egress lines r
 
 -- only the header was
 pub puts_head : (tells : Bool) (then now : Port → Shown) (had has : Files) (old : RunOutputs) (egress : Waiting) (r : Result (Unit {0}) Halt) (head : List ℕ)
-    → AreOpen then old → PutsAt tells ports.Egress then now had has old.egress egress r head
+    → OutsOpen then old → PutsAt tells ports.Egress then now had has old.egress egress r head
     → PutsTexts tells then now had has old (record old { egress = egress }) r (record { egress = head; lines = []; replies = [] })
 puts_head tells then now had has old egress r head ready put =
     let lines = put.moves.elsewhere ports.Lines lines_no_egress in
@@ -274,7 +275,7 @@ all_there written waits text none is = sym (append-nil written) ∙ ap (λ l. wr
 front_there : (written text : List ℕ) → IsFront written (text ++ []) → IsFront written text
 front_there written text front = front_of_same written (text ++ []) text (append-nil text) front
 
-pub finishes : (tells : Bool) (then now : Port → Shown) (had has : Files) (old new : RunOutputs) (r : Result (Unit {0}) Halt) → OnOk r (NothingWaits new) → PutsTexts tells then now had has old new r nothing_more → Finishes tells then now had has old r
+pub finishes : (tells : Bool) (then now : Port → Shown) (had has : Files) (old new : RunOutputs) (r : Result (Unit {0}) Halt) → OnOk r (NothingWaits new) → PutsTexts tells then now had has old new r nothing_more → OutsFinish tells then now had has old r
 finishes tells then now had has old new (Ok done) none puts = record {
   ok = λ told texts was. let all = puts.ok told texts was in record {
     egress = all_there (now ports.Egress).written new.egress.bytes texts.egress none.egress all.egress;
@@ -307,7 +308,7 @@ pub puts_written : (tells : Bool) (then mid now : Port → Shown) (had has at_la
     → PutsTexts tells then mid had has old middle (Ok tt) more → PutsTexts tells mid now has at_last middle new r nothing_more → PutsTexts tells then now had at_last old new r more
 puts_written tells then mid now had has at_last old middle new r more first second = record {
   ready = second.ready;
-  ok = λ told texts was. on_put r (Put now new (texts_behind (texts_behind texts more) nothing_more)) (Put now new (texts_behind texts more))
+  ok = λ told texts was. on_put r (OutsPut now new (texts_behind (texts_behind texts more) nothing_more)) (OutsPut now new (texts_behind texts more))
       (λ done. record {
         egress = done.egress ∙ append-nil (texts.egress ++ more.egress);
         lines = done.lines ∙ append-nil (texts.lines ++ more.lines);

@@ -17,7 +17,6 @@ use Rattle.control_files.specs.declared.segments.Mark.{Mark}
 use Rattle.control_files.specs.Segments.{AreSegments, mark_of, numbers, segment_bytes, segments_bytes, start}
 use Rattle.control_files.specs.Kept.{Kept as ControlKept}
 use Rattle.control_files.proofs.SegmentLemmas.{length-segment}
-use Rattle.record_text.specs.declared.records.Record.{Record}
 use Rattle.session_machine.specs.Groups.{Entry}
 use Rattle.session_machine.specs.Peers.{AllHold}
 use Rattle.sfc_config.specs.Parts.{Parts}
@@ -34,22 +33,19 @@ use Rattle.round_inputs.specs.declared.halts.Halt.{Halt}
 use Rattle.round_inputs.specs.declared.halts.Halt.TheVariants as halts
 use Rattle.round_inputs.specs.declared.round_inputs.RoundInputs.{RoundInputs}
 use Rattle.round_inputs.specs.Ahead.{CaptureAt, ControlAt, with_frame, with_segment}
-use Rattle.round_inputs.specs.Halts.{Counts}
 use Rattle.round_inputs.specs.Taking.{AreInputs, HoldsAt, round_of}
 use Rattle.round_inputs.proofs.ReadLemmas.{segments_size}
 use Rattle.worker_run.specs.declared.runners.Runner.{Runner}
-use Rattle.worker_run.specs.Batches.{AreWithinLimits, Carried, frames_in, records_in}
+use Rattle.worker_run.specs.Batches.{AreWithinLimits, Carried, frames_in}
 use Rattle.worker_run.specs.Controls.{AreShort, HasRoomFor, bytes_in}
 use Rattle.worker_run.specs.Runners.{IsSound, Stands}
-use Rattle.rounds.specs.Says.{Says}
+use Rattle.commands.specs.Outputs.{Outputs}
 use Rattle.file_runs.specs.declared.round_frames.RoundFrames.{RoundFrames}
-use Rattle.file_runs.specs.declared.run_outputs.RunOutputs.{RunOutputs}
 use Rattle.file_runs.specs.declared.run_steps.FileRun.{FileRun}
-use Rattle.file_runs.specs.FileRuns.{IsRunPort}
-use Rattle.file_runs.specs.RunSteps.{Along, AreOpen, Forwarded, HaltSays, IsOutput, NeverLong, Put, PutFronts, Reached, RoundPuts, Said, Standing, StoppedAt, Taken, Texts, WritesOutputs, batch_texts, capture_of, control_of, texts_behind, texts_of, view_of}
+use Rattle.file_runs.specs.Means.{AreOpen, IsOfRun, Means, NeverLong, Put, PutFronts, RoundPuts, Saying, WritesOutputs, Wrote}
+use Rattle.file_runs.specs.RunSteps.{Along, HaltSays, Reached, Said, Standing, StoppedAt, Taken, capture_of, control_of, view_of}
 use Rattle.file_runs.proofs.AlongLemmas.{capture_no_output, control_no_output, halt_says, heard_by, none_bound_then, output_is_run, so_far_said}
 use Rattle.file_runs.proofs.ReachLemmas.{reached_next}
-use Rattle.file_runs.proofs.TextLemmas.{texts_next}
 
 -- ---- the frames
 
@@ -138,23 +134,23 @@ room_for runner history group hold few = (bytes_in history, hold, let more = byt
 
 -- ---- what is asked before the round is run
 
-pub taken_limits : (says : Says Record) (setup : Parts) (tells : Bool) (then now : Port → Shown) (run : FileRun) (place : ℕ) → Taken says setup tells then now run place → AreWithinLimits run.frames.batch
-taken_limits says setup tells then now run place x = frames_within tells (capture_of then) (now ports.Capture).left run.inputs.frame run.inputs.capture x.passed run.frames.batch x.holds.frames
+pub taken_limits : (m : Means) (setup : Parts) (tells : Bool) (then now : Port → Shown) (waits : Outputs) (run : FileRun) (place : ℕ) → Taken m setup tells then now waits run place → AreWithinLimits run.frames.batch
+taken_limits m setup tells then now waits run place x = frames_within tells (capture_of then) (now ports.Capture).left run.inputs.frame run.inputs.capture x.passed run.frames.batch x.holds.frames
 
-taken_fit : (says : Says Record) (setup : Parts) (tells : Bool) (then now : Port → Shown) (run : FileRun) (place : ℕ) (x : Taken says setup tells then now run place) → AreSegments (numbers setup.peers) start (x.history ++ run.group)
-taken_fit says setup tells then now run place x =
+taken_fit : (m : Means) (setup : Parts) (tells : Bool) (then now : Port → Shown) (waits : Outputs) (run : FileRun) (place : ℕ) (x : Taken m setup tells then now waits run place) → AreSegments (numbers setup.peers) start (x.history ++ run.group)
+taken_fit m setup tells then now waits run place x =
     subst (λ (ps : List ℕ). AreSegments ps start (x.history ++ run.group)) x.standing.peers
     (segments_fit tells (control_of then) (now ports.Control).left run.inputs.segment run.inputs.control (x.history ++ run.group) x.holds.segments)
 
-pub taken_peers : (says : Says Record) (setup : Parts) (tells : Bool) (then now : Port → Shown) (run : FileRun) (place : ℕ) → Taken says setup tells then now run place → AreOfPeers run.runner.setup.peers run.group
-taken_peers says setup tells then now run place x =
-    subst (λ (p : Parts). AreOfPeers p.peers run.group) (sym x.standing.setup_is) (group_of_peers setup.peers x.history run.group (taken_fit says setup tells then now run place x))
+pub taken_peers : (m : Means) (setup : Parts) (tells : Bool) (then now : Port → Shown) (waits : Outputs) (run : FileRun) (place : ℕ) → Taken m setup tells then now waits run place → AreOfPeers run.runner.setup.peers run.group
+taken_peers m setup tells then now waits run place x =
+    subst (λ (p : Parts). AreOfPeers p.peers run.group) (sym x.standing.setup_is) (group_of_peers setup.peers x.history run.group (taken_fit m setup tells then now waits run place x))
 
-pub taken_short : (says : Says Record) (setup : Parts) (tells : Bool) (then now : Port → Shown) (run : FileRun) (place : ℕ) → Taken says setup tells then now run place → AreShort run.group
-taken_short says setup tells then now run place x = group_short (numbers setup.peers) x.history run.group (taken_fit says setup tells then now run place x)
+pub taken_short : (m : Means) (setup : Parts) (tells : Bool) (then now : Port → Shown) (waits : Outputs) (run : FileRun) (place : ℕ) → Taken m setup tells then now waits run place → AreShort run.group
+taken_short m setup tells then now waits run place x = group_short (numbers setup.peers) x.history run.group (taken_fit m setup tells then now waits run place x)
 
-pub taken_room : (says : Says Record) (setup : Parts) (tells : Bool) (then now : Port → Shown) (run : FileRun) (place : ℕ) → Taken says setup tells then now run place → HasRoomFor run.runner.control run.group
-taken_room says setup tells then now run place x =
+pub taken_room : (m : Means) (setup : Parts) (tells : Bool) (then now : Port → Shown) (waits : Outputs) (run : FileRun) (place : ℕ) → Taken m setup tells then now waits run place → HasRoomFor run.runner.control run.group
+taken_room m setup tells then now waits run place x =
     room_for run.runner x.history run.group x.is_said.hold
     (bytes_few tells (control_of then) (now ports.Control).left run.inputs.segment run.inputs.control (x.history ++ run.group) x.holds.segments x.few.control)
 
@@ -163,21 +159,22 @@ sound_by runner history log stands = inr (history, log, stands)
 
 -- ---- behind the round
 
--- a run with this runner, these frames and these outputs
-abbrev pub with_run : FileRun → Runner → RoundFrames → RunOutputs → FileRun
-with_run run runner frames outputs = record { form = run.form; inputs = run.inputs; runner = runner; frames = frames; group = run.group; outputs = outputs }
+-- a run with this runner and these frames
+abbrev pub with_run : FileRun → Runner → RoundFrames → FileRun
+with_run run runner frames = record { form = run.form; inputs = run.inputs; runner = runner; frames = frames; group = run.group }
 
-pub others_written : (tells : Bool) (had has : Files) (then mid now : Port → Shown) → WritesOutputs tells had has mid now → ((port : Port) → (IsRunPort port → ⊥) → mid port ≡ then port) → (port : Port) → (IsRunPort port → ⊥) → now port ≡ then port
-others_written tells had has then mid now writes others port outside = writes.others port (λ output. outside (output_is_run port output)) ∙ others port outside
+pub others_written : (m : Means) (tells : Bool) (had has : Files) (then mid now : Port → Shown) → WritesOutputs m.is_output tells had has mid now → ((port : Port) → (IsOfRun m port → ⊥) → mid port ≡ then port)
+    → (port : Port) → (IsOfRun m port → ⊥) → now port ≡ then port
+others_written m tells had has then mid now writes others port outside = writes.others port (λ output. outside (output_is_run m port output)) ∙ others port outside
 
-pub standing_written : (setup : Parts) (tells : Bool) (had has : Files) (then mid now : Port → Shown) (run : FileRun) (runner : Runner) (frames : RoundFrames) (outputs : RunOutputs)
-    → Standing setup tells then mid run → WritesOutputs tells had has mid now → SameCounts mid now → AreOpen now outputs → runner.setup ≡ run.runner.setup → Standing setup tells then now (with_run run runner frames outputs)
-standing_written setup tells had has then mid now run runner frames outputs standing writes quiet ready same = record {
+pub standing_written : (m : Means) (setup : Parts) (tells : Bool) (had has : Files) (then mid now : Port → Shown) (run : FileRun) (runner : Runner) (frames : RoundFrames)
+    → Standing m setup tells then mid run → WritesOutputs m.is_output tells had has mid now → SameCounts mid now → AreOpen m now → runner.setup ≡ run.runner.setup → Standing m setup tells then now (with_run run runner frames)
+standing_written m setup tells had has then mid now run runner frames standing writes quiet ready same = record {
   none_bound = none_bound_then tells then mid now standing.none_bound writes.none_bound;
-  others = others_written tells had has then mid now writes standing.others;
+  others = others_written m tells had has then mid now writes standing.others;
   counts = λ p. quiet p ∙ standing.counts p;
-  capture_bound = ap (λ (s : Shown). s.bound) (writes.others ports.Capture capture_no_output) ∙ standing.capture_bound;
-  control_bound = ap (λ (s : Shown). s.bound) (writes.others ports.Control control_no_output) ∙ standing.control_bound;
+  capture_bound = ap (λ (s : Shown). s.bound) (writes.others ports.Capture (capture_no_output m)) ∙ standing.capture_bound;
+  control_bound = ap (λ (s : Shown). s.bound) (writes.others ports.Control (control_no_output m)) ∙ standing.control_bound;
   ready = ready;
   parts = standing.parts;
   setup_is = same ∙ standing.setup_is;
@@ -186,111 +183,98 @@ standing_written setup tells had has then mid now run runner frames outputs stan
 }
 
 -- the inputs stand where they stood, since nothing was read
-pub holds_written : (tells : Bool) (had has : Files) (capture control : List ℕ) (mid now : Port → Shown) (inputs : RoundInputs) (passed : List Captured) (history : List Segment)
-    → WritesOutputs tells had has mid now → HoldsAt tells capture control mid inputs passed history → HoldsAt tells capture control now inputs passed history
-holds_written tells had has capture control mid now inputs passed history writes holds = record {
-  frames = subst (λ (s : Shown). CaptureAt tells capture s.left inputs.frame inputs.capture passed) (sym (writes.others ports.Capture capture_no_output)) holds.frames;
-  segments = subst (λ (s : Shown). ControlAt tells control s.left inputs.segment inputs.control history) (sym (writes.others ports.Control control_no_output)) holds.segments;
+pub holds_written : (m : Means) (tells : Bool) (had has : Files) (capture control : List ℕ) (mid now : Port → Shown) (inputs : RoundInputs) (passed : List Captured) (history : List Segment)
+    → WritesOutputs m.is_output tells had has mid now → HoldsAt tells capture control mid inputs passed history → HoldsAt tells capture control now inputs passed history
+holds_written m tells had has capture control mid now inputs passed history writes holds = record {
+  frames = subst (λ (s : Shown). CaptureAt tells capture s.left inputs.frame inputs.capture passed) (sym (writes.others ports.Capture (capture_no_output m))) holds.frames;
+  segments = subst (λ (s : Shown). ControlAt tells control s.left inputs.segment inputs.control history) (sym (writes.others ports.Control (control_no_output m))) holds.segments;
   place = holds.place;
   steps = holds.steps;
 }
 
--- what the round said
-pub reached_round : (says : Says Record) (setup : Parts) (tells : Bool) (then mid : Port → Shown) (run : FileRun) (place : ℕ) (runner : Runner) (after : List Carried) (replies : List ℕ) (x : Taken says setup tells then mid run place)
-    → runner.setup ≡ setup → Forwarded says runner x.history x.log run.group run.frames.batch after replies → tells ≡ true → (whole : Inputs) → AreInputs (capture_of then) (control_of then) run.form (numbers setup.peers) whole
-    → Reached says (AreOfPeers setup.peers) whole (view_of whole (x.passed ++ frames_in run.frames.batch) (x.history ++ run.group) (x.said ++ records_in after))
-reached_round says setup tells then mid run place runner after replies x is rounded told whole are =
-    reached_next says (AreOfPeers setup.peers) whole x.passed x.history x.said (round_of run.group (frames_in run.frames.batch)) (records_in after)
-    (x.is_said.reached told whole are) (x.next told run.form whole are) (peers_of_all setup.peers (x.history ++ run.group) (taken_fit says setup tells then mid run place x))
-    rounded.says_so
+-- from the beginning to the view behind the round
+reached_round : (m : Means) (setup : Parts) (tells : Bool) (then mid : Port → Shown) (waits : Outputs) (run : FileRun) (place : ℕ) (runner : Runner) (more : List Entry) (here : List m.Said) (x : Taken m setup tells then mid waits run place)
+    → Saying m runner x.history x.log run.group (frames_in run.frames.batch) more here → tells ≡ true → (whole : Inputs) → AreInputs (capture_of then) (control_of then) run.form (numbers setup.peers) whole
+    → Reached m.says (AreOfPeers setup.peers) whole (view_of whole (x.passed ++ frames_in run.frames.batch) (x.history ++ run.group) (x.said ++ here))
+reached_round m setup tells then mid waits run place runner more here x saying told whole are =
+    reached_next m.says (AreOfPeers setup.peers) whole x.passed x.history x.said (round_of run.group (frames_in run.frames.batch)) here
+    (x.is_said.reached told whole are) (x.next told run.form whole are) (peers_of_all setup.peers (x.history ++ run.group) (taken_fit m setup tells then mid waits run place x)) saying.says_so
 
-texts_round : (says : Says Record) (setup : Parts) (form : Option Form) (passed : List Captured) (history : List Segment) (log : List Entry) (said : List Record) (runner : Runner) (segments : List Segment) (old new : List Carried) (place : ℕ) (replies : List ℕ)
-    → length said ≡ length passed → place ≡ length passed → runner.setup ≡ setup → (x : Forwarded says runner history log segments old new replies)
-    → texts_behind (texts_of setup form passed history log said) (batch_texts form runner.setup.roster place new replies) ≡ texts_of setup form (passed ++ frames_in old) (history ++ segments) (log ++ x.now) (said ++ records_in new)
-texts_round says setup form passed history log said runner segments old new place replies each at is x =
-    subst (λ (p : Parts). texts_behind (texts_of p form passed history log said) (batch_texts form runner.setup.roster place new replies) ≡ texts_of p form (passed ++ frames_in old) (history ++ segments) (log ++ x.now) (said ++ records_in new)) is
-    (texts_next runner.setup form passed history segments log x.now said old new place replies each at x.out x.replies_are)
+many_more : (R : Type 0) (said here : List R) (passed frames : List Captured) → length said ≡ length passed → length here ≡ length frames → length (said ++ here) ≡ length (passed ++ frames)
+many_more R said here passed frames was many = omega (arith, many, was, length-append said here, length-append passed frames)
 
-pub said_round : (says : Says Record) (setup : Parts) (tells : Bool) (then mid now : Port → Shown) (run : FileRun) (place : ℕ) (runner : Runner) (frames : RoundFrames) (outputs : RunOutputs) (replies : List ℕ) (x : Taken says setup tells then mid run place)
-    → runner.setup ≡ setup → (rounded : Forwarded says runner x.history x.log run.group run.frames.batch frames.batch replies) → AllHold (bytes_in x.history + bytes_in run.group) runner.control.sessions.sessions.items
-    → (tells ≡ true → (texts : Texts) → Put mid run.outputs texts → Put now outputs (texts_behind texts (batch_texts run.form runner.setup.roster place frames.batch replies)))
-    → Said says setup tells then now (with_run run runner frames outputs) (x.passed ++ frames_in run.frames.batch) (x.history ++ run.group) (x.log ++ rounded.now) (x.said ++ records_in frames.batch)
-said_round says setup tells then mid now run place runner frames outputs replies x is rounded hold put = record {
-  stands = rounded.stands;
-  of_peers = peers_of_all setup.peers (x.history ++ run.group) (taken_fit says setup tells then mid run place x);
+said_round : (m : Means) (setup : Parts) (tells : Bool) (then mid now : Port → Shown) (waits left : Outputs) (run : FileRun) (place : ℕ) (runner : Runner) (frames : RoundFrames) (more : List Entry) (here : List m.Said) (x : Taken m setup tells then mid waits run place)
+    → Saying m runner x.history x.log run.group (frames_in run.frames.batch) more here → AllHold (bytes_in x.history + bytes_in run.group) runner.control.sessions.sessions.items
+    → (tells ≡ true → Put m mid waits (m.texts run.form x.passed x.history x.log x.said) → Put m now left (m.texts run.form (x.passed ++ frames_in run.frames.batch) (x.history ++ run.group) (x.log ++ more) (x.said ++ here)))
+    → Said m setup tells then now left (with_run run runner frames) (x.passed ++ frames_in run.frames.batch) (x.history ++ run.group) (x.log ++ more) (x.said ++ here)
+said_round m setup tells then mid now waits left run place runner frames more here x saying hold put = record {
+  stands = saying.stands;
+  of_peers = peers_of_all setup.peers (x.history ++ run.group) (taken_fit m setup tells then mid waits run place x);
   hold = subst (λ n. AllHold n runner.control.sessions.sessions.items) (sym (bytes_more x.history run.group)) hold;
-  each =
-      let many = rounded.each in
-      let was = x.is_said.each in
-      omega (arith, many, was, length-append x.said (records_in frames.batch), length-append x.passed (frames_in run.frames.batch));
-  reached = reached_round says setup tells then mid run place runner frames.batch replies x is rounded;
-  put = λ told. subst (Put now outputs) (texts_round says setup run.form x.passed x.history x.log x.said runner run.group run.frames.batch frames.batch place replies x.is_said.each x.place_is is rounded)
-      (put told (texts_of setup run.form x.passed x.history x.log x.said) (x.is_said.put told));
+  each = many_more m.Said x.said here x.passed (frames_in run.frames.batch) x.is_said.each saying.each;
+  reached = reached_round m setup tells then mid waits run place runner more here x saying;
+  put = λ told. put told (x.is_said.put told);
 }
 
-pub along_round : (says : Says Record) (setup : Parts) (tells : Bool) (had has : Files) (then mid now : Port → Shown) (run : FileRun) (place : ℕ) (runner : Runner) (frames : RoundFrames) (outputs : RunOutputs) (r : Result (Unit {0}) Halt) (x : Taken says setup tells then mid run place)
-    → runner.setup ≡ run.runner.setup → WritesOutputs tells had has mid now → Counts IsOutput mid now r → OnOk r (AreOpen now outputs) → OnOk r (AllHold (bytes_in x.history + bytes_in run.group) runner.control.sessions.sessions.items)
-    → RoundPuts says tells mid now run.outputs outputs runner run.form place x.history x.log run.group run.frames.batch frames.batch r
-    → OnOk r (Along says setup tells then now (with_run run runner frames outputs))
-along_round says setup tells had has then mid now run place runner frames outputs (Ok done) x same writes counts ready hold puts = record {
-  standing = standing_written setup tells had has then mid now run runner frames outputs x.standing writes counts ready same;
+pub along_round : (m : Means) (setup : Parts) (tells : Bool) (had has : Files) (then mid now : Port → Shown) (waits left : Outputs) (run : FileRun) (place : ℕ) (runner : Runner) (frames : RoundFrames) (r : Result (Unit {0}) Halt) (x : Taken m setup tells then mid waits run place)
+    → runner.setup ≡ run.runner.setup → Wrote m tells had has mid now r → OnOk r (AreOpen m now) → OnOk r (AllHold (bytes_in x.history + bytes_in run.group) runner.control.sessions.sessions.items)
+    → RoundPuts m tells mid now waits left runner run.form x.passed x.history x.log x.said run.group (frames_in run.frames.batch) r
+    → OnOk r (Along m setup tells then now left (with_run run runner frames))
+along_round m setup tells had has then mid now waits left run place runner frames (Ok done) x same wrote ready hold puts = record {
+  standing = standing_written m setup tells had has then mid now run runner frames x.standing wrote.writes wrote.counts ready same;
   few = x.few;
   lends = x.lends;
   passed = x.passed ++ frames_in run.frames.batch;
   history = x.history ++ run.group;
-  log = x.log ++ puts.1.now;
-  said = x.said ++ records_in frames.batch;
-  holds = holds_written tells had has (capture_of then) (control_of then) mid now run.inputs (x.passed ++ frames_in run.frames.batch) (x.history ++ run.group) writes x.holds;
-  is_said = said_round says setup tells then mid now run place runner frames outputs puts.0 x (same ∙ x.standing.setup_is) puts.1 hold puts.2;
+  log = x.log ++ puts.0;
+  said = x.said ++ puts.1;
+  holds = holds_written m tells had has (capture_of then) (control_of then) mid now run.inputs (x.passed ++ frames_in run.frames.batch) (x.history ++ run.group) wrote.writes x.holds;
+  is_said = said_round m setup tells then mid now waits left run place runner frames puts.0 puts.1 x puts.2 hold puts.3;
 }
-along_round says setup tells had has then mid now run place runner frames outputs (Err halt) x same writes counts ready hold puts = tt
+along_round m setup tells had has then mid now waits left run place runner frames (Err halt) x same wrote ready hold puts = tt
 
 -- what was said where the round was not put whole
-stopped_round : (says : Says Record) (setup : Parts) (tells : Bool) (then mid now : Port → Shown) (run : FileRun) (place : ℕ) (runner : Runner) (frames : RoundFrames) (x : Taken says setup tells then mid run place) → runner.setup ≡ setup → tells ≡ true
-    → PutFronts now (texts_of setup run.form x.passed x.history x.log x.said)
-    ⊎ ((replies : List ℕ) × Forwarded says runner x.history x.log run.group run.frames.batch frames.batch replies
-    × PutFronts now (texts_behind (texts_of setup run.form x.passed x.history x.log x.said) (batch_texts run.form runner.setup.roster place frames.batch replies)))
-    → StoppedAt says setup then now
-stopped_round says setup tells then mid now run place runner frames x is told (inl fronts) = record {
+stopped_round : (m : Means) (setup : Parts) (tells : Bool) (then mid now : Port → Shown) (waits : Outputs) (run : FileRun) (place : ℕ) (runner : Runner) (x : Taken m setup tells then mid waits run place) → runner.setup ≡ setup → tells ≡ true
+    → PutFronts m now (m.texts run.form x.passed x.history x.log x.said)
+    ⊎ ((more : List Entry) × (here : List m.Said) × Saying m runner x.history x.log run.group (frames_in run.frames.batch) more here
+    × PutFronts m now (m.texts run.form (x.passed ++ frames_in run.frames.batch) (x.history ++ run.group) (x.log ++ more) (x.said ++ here)))
+    → StoppedAt m setup then now
+stopped_round m setup tells then mid now waits run place runner x is told (inl fronts) = record {
   form = run.form;
   passed = x.passed;
   history = x.history;
   log = x.log;
   said = x.said;
-  so = so_far_said says setup tells then mid run x.passed x.history x.log x.said x.standing x.is_said told;
+  so = so_far_said m setup tells then mid waits run x.passed x.history x.log x.said x.standing x.is_said told;
   fronts = fronts;
 }
-stopped_round says setup tells then mid now run place runner frames x is told (inr (replies, rounded, fronts)) = record {
+stopped_round m setup tells then mid now waits run place runner x is told (inr (more, here, saying, fronts)) = record {
   form = run.form;
   passed = x.passed ++ frames_in run.frames.batch;
   history = x.history ++ run.group;
-  log = x.log ++ rounded.now;
-  said = x.said ++ records_in frames.batch;
+  log = x.log ++ more;
+  said = x.said ++ here;
   so = record {
     parts = x.standing.parts;
-    of_peers = peers_of_all setup.peers (x.history ++ run.group) (taken_fit says setup tells then mid run place x);
-    heard = heard_by setup runner (x.history ++ run.group) (x.log ++ rounded.now) is rounded.stands;
-    each =
-        let many = rounded.each in
-        let was = x.is_said.each in
-        omega (arith, many, was, length-append x.said (records_in frames.batch), length-append x.passed (frames_in run.frames.batch));
+    of_peers = peers_of_all setup.peers (x.history ++ run.group) (taken_fit m setup tells then mid waits run place x);
+    heard = heard_by setup runner (x.history ++ run.group) (x.log ++ more) is saying.stands;
+    each = many_more m.Said x.said here x.passed (frames_in run.frames.batch) x.is_said.each saying.each;
     form_is = x.standing.form_is told;
-    reached = reached_round says setup tells then mid run place runner frames.batch replies x is rounded told;
+    reached = reached_round m setup tells then mid waits run place runner more here x saying told;
   };
-  fronts = subst (PutFronts now) (texts_round says setup run.form x.passed x.history x.log x.said runner run.group run.frames.batch frames.batch place replies x.is_said.each x.place_is is rounded) fronts;
+  fronts = fronts;
 }
 
 pub no_long : {A B : Type 0} (T : Type 0) (halt : Halt) (port : Port) → NeverLong {T = T} (Err halt) → halt ≡ halts.Long port → A × B
 no_long T halt port never is = absurd (never port (ap (λ (h : Halt). Err h) is))
 
-pub halts_round : (says : Says Record) (setup : Parts) (tells : Bool) (had has : Files) (then mid now : Port → Shown) (run : FileRun) (place : ℕ) (runner : Runner) (frames : RoundFrames) (outputs : RunOutputs) (r : Result (Unit {0}) Halt) (x : Taken says setup tells then mid run place)
-    → runner.setup ≡ run.runner.setup → WritesOutputs tells had has mid now → Counts IsOutput mid now r → NeverLong r
-    → RoundPuts says tells mid now run.outputs outputs runner run.form place x.history x.log run.group run.frames.batch frames.batch r
-    → IfErr r (HaltSays says setup tells then now)
-halts_round says setup tells had has then mid now run place runner frames outputs (Ok done) x same writes counts never puts = tt
-halts_round says setup tells had has then mid now run place runner frames outputs (Err halt) x same writes counts never puts =
-    halt_says says setup tells then mid now IsOutput (Unit {0}) halt (none_bound_then tells then mid now x.standing.none_bound writes.none_bound) x.standing.counts
-    (others_written tells had has then mid now writes x.standing.others) output_is_run counts
-    (λ told. inr (stopped_round says setup tells then mid now run place runner frames x (same ∙ x.standing.setup_is) told
-    (puts told (texts_of setup run.form x.passed x.history x.log x.said) (x.is_said.put told))))
-    (λ port is. no_long (Unit {0}) halt port never is)
+pub halts_round : (m : Means) (setup : Parts) (tells : Bool) (had has : Files) (then mid now : Port → Shown) (waits left : Outputs) (run : FileRun) (place : ℕ) (runner : Runner) (r : Result (Unit {0}) Halt) (x : Taken m setup tells then mid waits run place)
+    → runner.setup ≡ run.runner.setup → Wrote m tells had has mid now r
+    → RoundPuts m tells mid now waits left runner run.form x.passed x.history x.log x.said run.group (frames_in run.frames.batch) r
+    → IfErr r (HaltSays m setup tells then now)
+halts_round m setup tells had has then mid now waits left run place runner (Ok done) x same wrote puts = tt
+halts_round m setup tells had has then mid now waits left run place runner (Err halt) x same wrote puts =
+    halt_says m setup tells then mid now m.is_output (Unit {0}) halt (none_bound_then tells then mid now x.standing.none_bound wrote.writes.none_bound) x.standing.counts
+    (others_written m tells had has then mid now wrote.writes x.standing.others) (output_is_run m) wrote.counts
+    (λ told. inr (stopped_round m setup tells then mid now waits run place runner x (same ∙ x.standing.setup_is) told (puts told (x.is_said.put told))))
+    (λ port is. no_long (Unit {0}) halt port wrote.never_long is)

@@ -1,5 +1,5 @@
 -- The texts of a run, and those of what more is said.
-use Rattle.std.proofs.Common.{◌≡◌, ℕ, ◌+◌, List, [], ◌∷◌, ◌++◌, append_assoc, length, Option, None, Some, refl, sym, ap, ◌∙◌, arith}
+use Rattle.std.proofs.Common.{append-nil, ◌≡◌, ℕ, ◌+◌, List, [], ◌∷◌, ◌++◌, append_assoc, length, Option, None, Some, refl, sym, ap, ◌∙◌, arith}
 use Rattle.pcap_io.specs.declared.forms.Form.{Form}
 use Rattle.pcap_io.specs.declared.frames.Captured.{Captured}
 use Rattle.pcap_io.specs.Egress.{packet_left, packets_left}
@@ -14,7 +14,7 @@ use Rattle.sfc_routes.specs.Entries.{Entries}
 use Rattle.forwarder.specs.Walks.{functions_of}
 use Rattle.worker_run.specs.Batches.{Carried, frames_in, records_in}
 use Rattle.worker_run.specs.Outputs.{EgressOf, LinesOf, RepliesOf, egress_packets, left_at, left_by, lines_from, packets_out}
-use Rattle.file_runs.specs.RunSteps.{batch_texts, packets_in, texts_behind, texts_of}
+use Rattle.file_runs.specs.RunPuts.{batch_texts, packets_in, texts_behind, texts_of, head_in, nothing_more, only_head}
 
 packets_more : (functions : List Function) (form : Form) (xs ys : List Captured) (rs qs : List Record) → length rs ≡ length xs
     → packets_left form (xs ++ ys) (left_by functions (xs ++ ys) (rs ++ qs)) ≡ packets_left form xs (left_by functions xs rs) ++ packets_left form ys (left_by functions ys qs)
@@ -62,3 +62,10 @@ texts_next setup form passed history segments log now said old new place replies
     ap (λ n. LinesOf setup said ++ lines_from setup.roster n (records_in new)) here ∙ sym (lines_more setup.roster 0 said (records_in new)) in
     let replied = sym answered in
     λ k. record { egress = egress k; lines = lines k; replies = replied k }
+
+head_alone : (setup : Parts) (form : Option Form) → head_in form ≡ EgressOf setup form [] []
+head_alone setup None = refl
+head_alone setup (Some form) = sym (append-nil (file_head form))
+
+pub head_texts : (setup : Parts) (form : Option Form) → texts_behind nothing_more (only_head form) ≡ texts_of setup form [] [] [] []
+head_texts setup form = ap (λ (l : List ℕ). record { egress = l; lines = []; replies = [] }) (head_alone setup form)

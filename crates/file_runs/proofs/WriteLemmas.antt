@@ -31,16 +31,10 @@ use Rattle.worker_run.proofs.OneSaying.{OneLog}
 use Rattle.worker_run.proofs.RunLemmas.{peers_front}
 use Rattle.worker_run.proofs.SingleRuns.{OneSingle, one_single}
 use Rattle.file_runs.specs.RunTexts.{AreRuns, CountsTo, RunOf, RunWrites}
-use Rattle.file_runs.specs.RunSteps.{SaidSo, Texts, texts_of, view_of}
+use Rattle.file_runs.specs.RunPuts.{Texts, outputs_of, run_means, texts_of}
+use Rattle.file_runs.specs.RunSteps.{SaidSo, view_of}
 use Rattle.file_runs.proofs.ReachLemmas.{ends_there}
 use Rattle.file_runs.proofs.TextLemmas.{egress_more, lines_more, packets_of}
-
--- the bytes at the three ports
-abbrev pub outputs_of : Texts → Outputs
-outputs_of texts ports.Egress = texts.egress
-outputs_of texts ports.Lines = texts.lines
-outputs_of texts ports.Replies = texts.replies
-outputs_of texts _ = []
 
 -- from the beginning all frames are whole frames
 first_whole : (whole : Inputs) → 0 + length whole.frames ≡ length whole.frames
@@ -92,7 +86,7 @@ replies_front one setup history more log segments whole of_peers heard is all =
 
 -- what was said up to a view comes first in the texts of what a run gives that goes on from there
 fronts_on : OneLog → (says : Says Record) (setup : Parts) (capture control : List ℕ) (form : Option Form) (passed : List Captured) (history : List Segment) (log : List Entry) (said : List Record) (whole : Inputs) (told : Told Record) (all : List Entry)
-    → SaidSo says setup capture control form passed history log said → Gives says (view_of whole passed history said) told → Heard setup.local setup.peers told.segments all
+    → SaidSo (run_means says setup) setup capture control form passed history log said → Gives says (view_of whole passed history said) told → Heard setup.local setup.peers told.segments all
     → Fronts (texts_of setup form passed history log said) (outputs_of (texts_of setup form told.frames told.segments all told.said))
 fronts_on one_log says setup capture control form passed history log said whole told all so given heard =
     let counted = counted_at (view_of whole passed history said) given.rounds in
@@ -111,7 +105,7 @@ front_of_same_bytes part whole other is front = (front.0, front.1 ∙ sym is)
 
 -- where of a round one list is said at most, what was said so far comes first in each run of both files
 pub fronts_of : OneLog → (says : Says Record) (Is : RunOf) (setup : Parts) (capture control : List ℕ) (form : Option Form) (passed : List Captured) (history : List Segment) (log : List Entry) (said : List Record) (end : RunEnd) (out : Outputs)
-    → AreRuns setup says Is → IsOne says (AreOfPeers setup.peers) → SaidSo says setup capture control form passed history log said → RunWrites Is setup capture control end out → Fronts (texts_of setup form passed history log said) out
+    → AreRuns setup says Is → IsOne says (AreOfPeers setup.peers) → SaidSo (run_means says setup) setup capture control form passed history log said → RunWrites Is setup capture control end out → Fronts (texts_of setup form passed history log said) out
 fronts_of one_log says Is setup capture control form passed history log said end out runs one so x =
     let whole = x.counts.whole in
     let form_is : x.form ≡ form = so.form_is x.form whole x.counts.read in
@@ -165,7 +159,7 @@ written_by says Is setup capture control form end whole told log runs read ends 
 
 -- where the run ends, what was said is what is written
 pub written_there : (says : Says Record) (Is : RunOf) (setup : Parts) (capture control : List ℕ) (form : Option Form) (passed : List Captured) (history : List Segment) (log : List Entry) (said : List Record) (end : RunEnd) (whole : Inputs)
-    → AreRuns setup says Is → SaidSo says setup capture control form passed history log said → AreInputs capture control form (numbers setup.peers) whole → EndsAt (length passed) (left_of whole passed history) end
+    → AreRuns setup says Is → SaidSo (run_means says setup) setup capture control form passed history log said → AreInputs capture control form (numbers setup.peers) whole → EndsAt (length passed) (left_of whole passed history) end
     → RunWrites Is setup capture control end (outputs_of (texts_of setup form passed history log said))
 written_there says Is setup capture control form passed history log said end whole runs so read at =
     let there = ends_there says (AreOfPeers setup.peers) whole passed history said end (so.reached whole read) at in
@@ -184,7 +178,7 @@ peers_of setup capture control form end frames segments x =
 
 -- where both files have a run, what was said so far comes first in one
 pub fronts_of_some : OneLog → (says : Says Record) (Is : RunOf) (setup : Parts) (capture control : List ℕ) (form : Option Form) (passed : List Captured) (history : List Segment) (log : List Entry) (said : List Record) (end : RunEnd) (out : Outputs)
-    → AreRuns setup says Is → SaidSo says setup capture control form passed history log said → RunWrites Is setup capture control end out
+    → AreRuns setup says Is → SaidSo (run_means says setup) setup capture control form passed history log said → RunWrites Is setup capture control end out
     → (all : Outputs) × RunWrites Is setup capture control end all × Fronts (texts_of setup form passed history log said) all
 fronts_of_some one_log says Is setup capture control form passed history log said end out runs so x =
     let whole = x.counts.whole in

@@ -18,8 +18,7 @@ use Rattle.history_laws.proofs.HistoryLemmas.{SomeLog, history_front, is_history
 use Rattle.round_inputs.specs.Taking.{AreInputs}
 use Rattle.worker_run.specs.Outputs.{EgressOf, LinesOf, RepliesOf}
 use Rattle.file_runs.specs.RunTexts.{CountsTo, RunOf, RunWrites}
-use Rattle.file_runs.specs.RunSteps.{Texts}
-use Rattle.file_runs.proofs.WriteLemmas.{outputs_of}
+use Rattle.file_runs.specs.RunPuts.{Texts, outputs_of}
 
 -- the frames and segments that count, which are a history
 record Counting (setup : Parts) (capture control : List ℕ) : Type 0 where

@@ -1,3 +1,5 @@
 pub mod RunTexts
 pub mod FileRuns
+pub mod Means
+pub mod RunPuts
 pub mod RunSteps

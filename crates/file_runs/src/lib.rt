@@ -11,8 +11,9 @@
 //! What the layer above uses:
 //!
 //! - `read_run_words` reads the six names, and `open_files` binds the ports behind the setup, in their order.
-//! - `begin_run` looks at both inputs, `take_next` takes the next round, and `end_run` writes what waits. A command runs each round that was
-//!   taken on its own threads, puts it by `RunOutputs::put_round`, and says by a `RunWord` what may be said of a round.
+//! - `begin_run` looks at both inputs, and `take_next` takes the next round. A command runs each round that was taken on its own threads, puts
+//!   it at its outputs, and says by a `RunWord` what may be said of a round and what then stands at the outputs. `RunOutputs` are the three of a
+//!   run that says records.
 //! - What is written is `RunWrites`, and what each answer of a command says is `FileAnswers`, over the lists of records that may be a
 //!   run's: on one thread `IsSingle`, on several workers `IsRun`.
 //! - Two files have one run on one thread (`one_run_is_written`), and every two have one (`every_two_files_have_a_run`).
@@ -23,7 +24,7 @@
 //! ```text
 //! let mut run = begin_run(alloc, desk, setup, 1, &OneThread)?;
 //! let end = take_next(desk, &mut run, &OneThread)?;       // None: a round was taken, into run.frames and run.group
-//! end_run(desk, &mut run, end, &OneThread)
+//! status_of_end(end)
 //! ```
 #![tactic(auto)]
 
@@ -37,7 +38,7 @@ mod run_words;
 
 pub use laws::{every_two_files_have_a_run, one_run_is_written};
 pub use round_frames::RoundFrames;
-pub use run_ends::{begin_run, end_run, status_of_halt};
+pub use run_ends::{begin_run, status_of_end, status_of_halt};
 pub use run_openings::open_files;
 pub use run_outputs::RunOutputs;
 pub use run_steps::{FileRun, RunWord, take_next};

@@ -1,14 +1,11 @@
-//! How a run over the bound inputs begins, and how it ends.
+//! How a run over the bound inputs begins, and the status with which it ends.
 
-ghost use Rattle.std.specs.Prelude.{◌≡◌, ◌≤◌, ℕ, true, [], IfOk, IfErr};
-ghost use Rattle.sfc_desk.specs.declared.ports.Port.{Port as DeskPort};
-ghost use Rattle.sfc_desk.specs.Desks.{Shown};
-ghost use Rattle.sfc_config.specs.Parts.{Parts};
+ghost use Rattle.std.specs.Prelude.{◌≡◌, ◌≤◌, IfOk, IfErr};
 ghost use Rattle.file_runs.specs.FileRuns.{status_of_end as end_status};
-ghost use Rattle.file_runs.specs.RunSteps.{Along, AreBound, HaltSays, Over, StreamSays, status_of_halt as halt_status};
+ghost use Rattle.file_runs.specs.Means.{AreBound};
+ghost use Rattle.file_runs.specs.RunSteps.{Begun, HaltSays, status_of_halt as halt_status};
 
 use crate::round_frames::RoundFrames;
-use crate::run_outputs::RunOutputs;
 use crate::run_steps::{FileRun, RunWord};
 use commands::Status;
 use round_inputs::{Halt, begin_inputs};
@@ -31,7 +28,7 @@ pub fn status_of_halt(halt: Halt) -> Status
 }
 
 /// The status of a run that ends so.
-fn status_of_end(end: RunEnd) -> Status
+pub fn status_of_end(end: RunEnd) -> Status
     ensures { result ≡ end_status end }
 {
     match end {
@@ -41,7 +38,7 @@ fn status_of_end(end: RunEnd) -> Status
     }
 }
 
-/// Looks at both inputs, and puts the file header of the capture's form at the egress, where there is one.
+/// Looks at both inputs, and makes a runner before the first segment.
 pub fn begin_run<D: Desk, W: RunWord>(
     alloc: Global,
     desk: &mut D,
@@ -50,50 +47,26 @@ pub fn begin_run<D: Desk, W: RunWord>(
     _word: &W,
 ) -> Result<FileRun, Halt>
     requires workers { (1 ≤ workers) × (workers ≤ 16) }
-    requires bound { AreBound D.tells (D.at desk.old) }
-    ensures along { IfOk result (Along (W.says setup workers) setup D.tells (D.at desk.old) (D.at desk.new)) }
+    requires bound { AreBound (W.means setup workers) D.tells (D.at desk.old) }
+    ensures begun { IfOk result (Begun setup D.tells (D.held desk.old) (D.held desk.new) (D.at desk.old) (D.at desk.new)) }
     ensures workers { IfOk result (λ run. run.runner.workers ≡ workers) }
-    ensures halts { IfErr result (HaltSays (W.says setup workers) setup D.tells (D.at desk.old) (D.at desk.new)) }
+    ensures still { IfOk result (λ run. AreBound (W.means setup workers) D.tells (D.at desk.new)) }
+    ensures halts { IfErr result (HaltSays (W.means setup workers) setup D.tells (D.at desk.old) (D.at desk.new)) }
 {
     let inputs = match begin_inputs(alloc, desk, &setup.peers) {
         Ok(inputs) => inputs,
         Err(halt) => return Err(halt),
     };
-    let Ok(mut outputs) = RunOutputs::new(alloc) else {
-        return Err(Halt::OutOfMemory);
-    };
     let Ok(runner) = Runner::new(alloc, setup, workers) else {
         return Err(Halt::OutOfMemory);
     };
-    let form = inputs.form();
-    if let Err(halt) = outputs.put_header(desk, form) {
-        return Err(halt);
-    }
     Ok(FileRun {
-        form,
+        form: inputs.form(),
         inputs,
         runner,
         frames: RoundFrames {
             batch: Batch::new(alloc),
         },
         group: List::new(alloc),
-        outputs,
     })
-}
-
-/// Writes what waits, and tells how the run ends.
-pub fn end_run<D: Desk, W: RunWord>(
-    desk: &mut D,
-    run: &mut FileRun,
-    end: RunEnd,
-    _word: &W,
-) -> Status
-    requires { (setup : Parts) × (workers : ℕ) × (then : DeskPort → Shown) × Over (W.says setup workers) setup D.tells then (D.at desk.old) run.old end }
-    ensures { (setup : Parts) (workers : ℕ) (then : DeskPort → Shown) → Over (W.says setup workers) setup D.tells then (D.at desk.old) run.old end
-        → StreamSays (W.says setup workers) setup D.tells then (D.at desk.new) result }
-{
-    match run.outputs.finish(desk) {
-        Ok(()) => status_of_end(end),
-        Err(halt) => status_of_halt(halt),
-    }
 }

@@ -7,7 +7,8 @@ ghost use Rattle.commands.specs.Openings.{Opened, StopsAt};
 ghost use Rattle.commands.specs.Places.{Place, opens};
 ghost use Rattle.setup_inputs.specs.Setups.{setup_place};
 ghost use Rattle.file_runs.specs.FileRuns.{HasCapture, IsRunPort, run_ports};
-ghost use Rattle.file_runs.specs.RunSteps.{AreBound, HoldsInputs, files_of, input_ports};
+ghost use Rattle.file_runs.specs.RunPuts.{OutsBound};
+ghost use Rattle.file_runs.specs.RunSteps.{HoldsInputs, files_of, input_ports};
 
 use crate::run_words::RunWords;
 use commands::open_port;
@@ -70,7 +71,7 @@ pub fn open_files<D: Desk>(desk: &mut D, said: &RunWords<'_>) -> Result<(), Port
     ensures run { IfErr result IsRunPort }
     ensures there { IfErr result (λ port. port ≢ DeskPort.Capture → D.tells ≡ true → HasCapture (files_of said.now) (D.held desk.old)) }
     ensures holds { OnOk result (D.tells ≡ true → HoldsInputs (files_of said.now) (D.held desk.old) (D.at desk.new)) }
-    ensures bound { OnOk result (AreBound D.tells (D.at desk.new)) }
+    ensures bound { OnOk result (OutsBound D.tells (D.at desk.new)) }
     ensures files { D.held desk.new ≡ D.held desk.old }
 {
     if let Err(port) = open_inputs(desk, said) {

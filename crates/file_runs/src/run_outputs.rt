@@ -9,7 +9,8 @@ ghost use Rattle.round_outputs.specs.RoundOutputs.{AreNamed};
 ghost use Rattle.worker_run.specs.Batches.{records_in};
 ghost use Rattle.worker_run.specs.Outputs.{lines_from};
 ghost use Rattle.round_inputs.specs.declared.halts.Halt.{Halt as RunHalt};
-ghost use Rattle.file_runs.specs.RunSteps.{AreOpen, Finishes, PutsAt, PutsTexts, batch_texts, halt_of_fault, head_in, packets_in};
+ghost use Rattle.file_runs.specs.Means.{halt_of_fault};
+ghost use Rattle.file_runs.specs.RunPuts.{OutsFinish, OutsOpen, PutsAt, PutsTexts, batch_texts, head_in, packets_in};
 
 use commands::{Output, WriteFault};
 use pcap_io::{Form, capture_head};
@@ -154,11 +155,11 @@ fn finish<D: Desk>(desk: &mut D, output: &mut Output, port: Port) -> Result<(), 
 }
 
 impl RunOutputs {
-    ghost use Rattle.file_runs.specs.RunSteps.{NothingWaits, nothing_more, only_head};
+    ghost use Rattle.file_runs.specs.RunPuts.{NothingWaits, nothing_more, only_head};
 
     /// Puts the file header of the capture's form at the egress, where there is one.
     pub fn put_header<D: Desk>(&mut self, desk: &mut D, form: Option<Form>) -> Result<(), Halt>
-        requires ready { AreOpen (D.at desk.old) self.old }
+        requires ready { OutsOpen (D.at desk.old) self.old }
         ensures { PutsTexts D.tells (D.at desk.old) (D.at desk.new) (D.held desk.old) (D.held desk.new) self.old self.new result (only_head form) }
     {
         put_head(desk, &mut self.egress, form)
@@ -175,7 +176,7 @@ impl RunOutputs {
         batch: &Batch,
         replies: &[u8],
     ) -> Result<(), Halt>
-        requires ready { AreOpen (D.at desk.old) self.old }
+        requires ready { OutsOpen (D.at desk.old) self.old }
         requires named { AreNamed roster.now batch.now }
         ensures { PutsTexts D.tells (D.at desk.old) (D.at desk.new) (D.held desk.old) (D.held desk.new) self.old self.new result
             (batch_texts form roster.now place batch.now replies.now) }
@@ -198,7 +199,7 @@ impl RunOutputs {
 
     /// Writes what waits at each output.
     fn write_waiting<D: Desk>(&mut self, desk: &mut D) -> Result<(), Halt>
-        requires ready { AreOpen (D.at desk.old) self.old }
+        requires ready { OutsOpen (D.at desk.old) self.old }
         ensures puts { PutsTexts D.tells (D.at desk.old) (D.at desk.new) (D.held desk.old) (D.held desk.new) self.old self.new result nothing_more }
         ensures nothing { OnOk result (NothingWaits self.new) }
     {
@@ -221,7 +222,7 @@ impl RunOutputs {
         batch: &Batch,
         replies: &[u8],
     ) -> Result<(), Halt>
-        requires ready { AreOpen (D.at desk.old) self.old }
+        requires ready { OutsOpen (D.at desk.old) self.old }
         requires named { AreNamed roster.now batch.now }
         ensures { PutsTexts D.tells (D.at desk.old) (D.at desk.new) (D.held desk.old) (D.held desk.new) self.old self.new result
             (batch_texts form roster.now place batch.now replies.now) }
@@ -234,8 +235,8 @@ impl RunOutputs {
 
     /// Writes what waits at each output.
     pub fn finish<D: Desk>(&mut self, desk: &mut D) -> Result<(), Halt>
-        requires ready { AreOpen (D.at desk.old) self.old }
-        ensures { Finishes D.tells (D.at desk.old) (D.at desk.new) (D.held desk.old) (D.held desk.new) self.old result }
+        requires ready { OutsOpen (D.at desk.old) self.old }
+        ensures { OutsFinish D.tells (D.at desk.old) (D.at desk.new) (D.held desk.old) (D.held desk.new) self.old result }
     {
         self.write_waiting(desk)
     }

@@ -24,7 +24,10 @@ use Rattle.file_runs.specs.declared.round_frames.RoundFrames.{RoundFrames}
 use Rattle.file_runs.specs.declared.run_outputs.RunOutputs.{RunOutputs}
 use Rattle.file_runs.specs.declared.run_steps.FileRun.{FileRun}
 use Rattle.file_runs.specs.FileRuns.{AreRunFiles, RunFiles}
-use Rattle.file_runs.specs.RunSteps.{Along, Forwarded, RoundPuts, named_by}
+use Rattle.file_runs.specs.Means.{RoundPuts}
+use Rattle.file_runs.specs.RunPuts.{Forwarded, OutsOpen, PutsRound, run_means, waits_of}
+use Rattle.file_runs.specs.RunSteps.{Along, Taken, named_by}
+use Rattle.file_runs.proofs.RoundLemmas.{round_put, still_open}
 use Rattle.file_runs.proofs.TakenLemmas.{with_run}
 use Rattle.run_command.specs.RunCommand.{IsThreadedRun, ThreadedRun}
 use Rattle.run_command.specs.ThreadedSteps.{AlongOn, HasWorkers, TakenOn}
@@ -112,14 +115,15 @@ forwarded_on_threads runner history log segments old new replies x = record {
   out = x.out;
 }
 
--- what the round says by the runner's setup and workers, it says by these
-pub said_of_workers : (workers : ℕ) (setup : Parts) (tells : Bool) (then mid now : Port → Shown) (run : FileRun) (place : ℕ) (runner : Runner) (frames : RoundFrames) (outputs : RunOutputs) (r : Result (Unit {0}) Halt)
-    → (x : TakenOn workers setup tells then mid run place) → runner.setup ≡ run.runner.setup → runner.workers ≡ run.runner.workers
-    → RoundPuts (run_says runner.setup runner.workers) tells mid now run.outputs outputs runner run.form place x.taken.history x.taken.log run.group run.frames.batch frames.batch r
-    → RoundPuts (run_says setup workers) tells mid now run.outputs outputs runner run.form place x.taken.history x.taken.log run.group run.frames.batch frames.batch r
-said_of_workers workers setup tells then mid now run place runner frames outputs r x same many puts =
-    subst (λ n. RoundPuts (run_says setup n) tells mid now run.outputs outputs runner run.form place x.taken.history x.taken.log run.group run.frames.batch frames.batch r) (many ∙ x.has.is)
-    (subst (λ (p : Parts). RoundPuts (run_says p runner.workers) tells mid now run.outputs outputs runner run.form place x.taken.history x.taken.log run.group run.frames.batch frames.batch r) (same ∙ x.taken.standing.setup_is) puts)
+-- what was put of the round at the three outputs, by the runner's setup and workers, is what a run says
+pub said_of_workers : (workers : ℕ) (setup : Parts) (tells : Bool) (then mid now : Port → Shown) (old new : RunOutputs) (run : FileRun) (place : ℕ) (runner : Runner) (frames : RoundFrames) (r : Result (Unit {0}) Halt)
+    → (x : TakenOn workers setup tells then mid old run place) → runner.setup ≡ run.runner.setup → runner.workers ≡ run.runner.workers
+    → PutsRound (run_says runner.setup runner.workers) tells mid now old new runner run.form place x.taken.history x.taken.log run.group run.frames.batch frames.batch r
+    → RoundPuts (run_means (run_says setup workers) setup) tells mid now (waits_of old) (waits_of new) runner run.form x.taken.passed x.taken.history x.taken.log x.taken.said run.group (frames_in run.frames.batch) r
+said_of_workers workers setup tells then mid now old new run place runner frames r x same many puts =
+    round_put (run_says setup workers) setup tells mid now old new runner run.form place x.taken.passed x.taken.history x.taken.log x.taken.said run.group run.frames.batch frames.batch r x.taken.is_said.each x.taken.place_is (same ∙ x.taken.standing.setup_is)
+    (subst (λ n. PutsRound (run_says setup n) tells mid now old new runner run.form place x.taken.history x.taken.log run.group run.frames.batch frames.batch r) (many ∙ x.has.is)
+    (subst (λ (p : Parts). PutsRound (run_says p runner.workers) tells mid now old new runner run.form place x.taken.history x.taken.log run.group run.frames.batch frames.batch r) (same ∙ x.taken.standing.setup_is) puts))
 
 pub has_still : (runner other : Runner) (workers : ℕ) → other.workers ≡ runner.workers → HasWorkers runner workers → HasWorkers other workers
 has_still runner other workers same has = record { is = same ∙ has.is; some = has.some; most = has.most }
@@ -127,7 +131,16 @@ has_still runner other workers same has = record { is = same ∙ has.is; some = 
 pub workers_within : (runner : Runner) (workers : ℕ) → HasWorkers runner workers → (1 ≤ runner.workers) × (runner.workers ≤ 16)
 workers_within runner workers has = subst (λ n. (1 ≤ n) × (n ≤ 16)) (sym has.is) (has.some, has.most)
 
-pub along_with : (workers : ℕ) (setup : Parts) (tells : Bool) (then now : Port → Shown) (run : FileRun) (runner : Runner) (frames : RoundFrames) (outputs : RunOutputs) (r : Result (Unit {0}) Halt) → runner.workers ≡ run.runner.workers → HasWorkers run.runner workers
-    → OnOk r (Along (run_says setup workers) setup tells then now (with_run run runner frames outputs)) → OnOk r (AlongOn workers setup tells then now (with_run run runner frames outputs))
-along_with workers setup tells then now run runner frames outputs (Ok done) same has along = record { along = along; has = has_still run.runner runner workers same has }
-along_with workers setup tells then now run runner frames outputs (Err halt) same has along = tt
+pub along_with : (workers : ℕ) (setup : Parts) (tells : Bool) (then now : Port → Shown) (new : RunOutputs) (run : FileRun) (runner : Runner) (frames : RoundFrames) (r : Result (Unit {0}) Halt) → runner.workers ≡ run.runner.workers → HasWorkers run.runner workers
+    → OnOk r (OutsOpen now new) → OnOk r (Along (run_means (run_says setup workers) setup) setup tells then now (waits_of new) (with_run run runner frames)) → OnOk r (AlongOn workers setup tells then now new (with_run run runner frames))
+along_with workers setup tells then now new run runner frames (Ok done) same has ready along = record { along = along; ready = ready; has = has_still run.runner runner workers same has }
+along_with workers setup tells then now new run runner frames (Err halt) same has ready along = tt
+
+-- a round that was taken, by the outputs that stand as they stood
+pub taken_on : (workers : ℕ) (setup : Parts) (tells : Bool) (then mid now : Port → Shown) (outs : RunOutputs) (old run : FileRun) (place : ℕ) → (on : AlongOn workers setup tells then mid outs old) → run.runner ≡ old.runner
+    → Taken (run_means (run_says setup workers) setup) setup tells then now (waits_of outs) run place → TakenOn workers setup tells then now outs run place
+taken_on workers setup tells then mid now outs old run place on same taken = record {
+  taken = taken;
+  ready = still_open (run_says setup workers) setup mid now outs on.ready taken.standing.ready;
+  has = has_still old.runner run.runner workers (ap (λ (r : Runner). r.workers) same) on.has;
+}

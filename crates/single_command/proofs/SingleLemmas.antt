@@ -23,7 +23,10 @@ use Rattle.file_runs.specs.declared.run_outputs.RunOutputs.{RunOutputs}
 use Rattle.file_runs.specs.declared.run_steps.FileRun.{FileRun}
 use Rattle.file_runs.specs.declared.run_words.RunWords.{RunWords}
 use Rattle.file_runs.specs.FileRuns.{AreRunFiles, RunFiles}
-use Rattle.file_runs.specs.RunSteps.{Forwarded, RoundPuts, Taken, files_of, named_by}
+use Rattle.file_runs.specs.Means.{RoundPuts}
+use Rattle.file_runs.specs.RunPuts.{Forwarded, PutsRound, run_means, waits_of}
+use Rattle.file_runs.specs.RunSteps.{Taken, files_of, named_by}
+use Rattle.file_runs.proofs.RoundLemmas.{round_put}
 use Rattle.file_runs.proofs.CallLemmas.{named_so, spelled_by}
 use Rattle.single_command.specs.SingleCommand.{IsSingleWords}
 
@@ -56,10 +59,11 @@ forwarded_once runner history log segments old new replies x = record {
 pub says_one : OneSingle → (setup : Parts) → AreParts setup → IsOne (single_says setup) (AreOfPeers setup.peers)
 says_one one setup parts = λ history r here other fits a b. one setup history r.segments r.frames here other parts.roster_fits fits a b
 
--- what the round says by the runner's setup, it says by the setup
-pub said_of_setup : (setup : Parts) (tells : Bool) (mid now : Port → Shown) (run : FileRun) (place : ℕ) (runner : Runner) (frames : RoundFrames) (outputs : RunOutputs) (r : Result (Unit {0}) Halt) (then : Port → Shown)
-    → (x : Taken (single_says setup) setup tells then mid run place) → runner.setup ≡ run.runner.setup
-    → RoundPuts (single_says runner.setup) tells mid now run.outputs outputs runner run.form place x.history x.log run.group run.frames.batch frames.batch r
-    → RoundPuts (single_says setup) tells mid now run.outputs outputs runner run.form place x.history x.log run.group run.frames.batch frames.batch r
-said_of_setup setup tells mid now run place runner frames outputs r then x same puts =
-    subst (λ (p : Parts). RoundPuts (single_says p) tells mid now run.outputs outputs runner run.form place x.history x.log run.group run.frames.batch frames.batch r) (same ∙ x.standing.setup_is) puts
+-- what was put of the round at the three outputs, by the runner's setup, is what a run says
+pub said_of_setup : (setup : Parts) (tells : Bool) (mid now : Port → Shown) (old new : RunOutputs) (run : FileRun) (place : ℕ) (runner : Runner) (frames : RoundFrames) (r : Result (Unit {0}) Halt) (then : Port → Shown)
+    → (x : Taken (run_means (single_says setup) setup) setup tells then mid (waits_of old) run place) → runner.setup ≡ run.runner.setup
+    → PutsRound (single_says runner.setup) tells mid now old new runner run.form place x.history x.log run.group run.frames.batch frames.batch r
+    → RoundPuts (run_means (single_says setup) setup) tells mid now (waits_of old) (waits_of new) runner run.form x.passed x.history x.log x.said run.group (frames_in run.frames.batch) r
+said_of_setup setup tells mid now old new run place runner frames r then x same puts =
+    round_put (single_says setup) setup tells mid now old new runner run.form place x.passed x.history x.log x.said run.group run.frames.batch frames.batch r x.is_said.each x.place_is (same ∙ x.standing.setup_is)
+    (subst (λ (p : Parts). PutsRound (single_says p) tells mid now old new runner run.form place x.history x.log run.group run.frames.batch frames.batch r) (same ∙ x.standing.setup_is) puts)

@@ -14,7 +14,9 @@ ghost use Rattle.worker_run.specs.Batches.{AreWithinLimits};
 ghost use Rattle.worker_run.specs.Controls.{AreShort, HasRoomFor, bytes_in};
 ghost use Rattle.worker_run.specs.Runners.{IsSound, Stands};
 ghost use Rattle.worker_run.specs.Runs.{single_says};
-ghost use Rattle.file_runs.specs.RunSteps.{Along, AreOpen, HaltSays, IsOutput, NeverLong, Over, RoundPuts, Taken, WritesOutputs};
+ghost use Rattle.file_runs.specs.Means.{NeverLong, WritesOutputs};
+ghost use Rattle.file_runs.specs.RunPuts.{IsOutput, OutsOpen, PutsRound, run_means, waits_of};
+ghost use Rattle.file_runs.specs.RunSteps.{Along, HaltSays, Over, Taken};
 
 use control_files::Segment;
 use file_runs::{FileRun, RoundFrames, RunOutputs, RunWord, take_next};
@@ -25,12 +27,12 @@ use sfc_desk::Desk;
 use wire_base::List;
 use worker_run::Runner;
 
-/// What a round says on one thread.
+/// The means of a run on one thread.
 #[derive(Debug, Drop)]
 pub struct OneThread;
 
 impl RunWord for OneThread {
-    ghost says = { λ setup workers. single_says setup };
+    ghost means = { λ setup workers. run_means (single_says setup) setup };
 }
 
 /// Runs a round on one thread, and puts what it comes to.
@@ -49,16 +51,16 @@ fn run_round<D: Desk>(
     requires peers { AreOfPeers runner.old.setup.peers group.now }
     requires short { AreShort group.now }
     requires room { HasRoomFor runner.old.control group.now }
-    requires ready { AreOpen (D.at desk.old) outputs.old }
+    requires ready { OutsOpen (D.at desk.old) outputs.old }
     ensures round { (history : Sequence Given) (log : Sequence Entry) → Stands runner.old history log
-        → RoundPuts (single_says runner.new.setup) D.tells (D.at desk.old) (D.at desk.new) outputs.old outputs.new runner.new form place history log group.now frames.old.batch frames.new.batch result }
+        → PutsRound (single_says runner.new.setup) D.tells (D.at desk.old) (D.at desk.new) outputs.old outputs.new runner.new form place history log group.now frames.old.batch frames.new.batch result }
     ensures setup { runner.new.setup ≡ runner.old.setup }
     ensures hold { (most : ℕ) → AllHold most runner.old.control.sessions.sessions.items
         → OnOk result (AllHold (most + bytes_in group.now) runner.new.control.sessions.sessions.items) }
-    ensures ready { OnOk result (AreOpen (D.at desk.new) outputs.new) }
+    ensures ready { OnOk result (OutsOpen (D.at desk.new) outputs.new) }
     ensures counts { Counts IsOutput (D.at desk.old) (D.at desk.new) result }
     ensures never_long { NeverLong result }
-    ensures writes { WritesOutputs D.tells (D.held desk.old) (D.held desk.new) (D.at desk.old) (D.at desk.new) }
+    ensures writes { WritesOutputs IsOutput D.tells (D.held desk.old) (D.held desk.new) (D.at desk.old) (D.at desk.new) }
 {
     let replies = match runner.single_round(&mut frames.batch, group) {
         Ok(replies) => replies,
@@ -76,12 +78,19 @@ fn run_round<D: Desk>(
 }
 
 /// Runs the round that was taken, whose first frame has this number.
-fn run_taken<D: Desk>(desk: &mut D, run: &mut FileRun, place: u64) -> Result<(), Halt>
-    requires { (setup : Parts) × (then : DeskPort → Shown) × Taken (single_says setup) setup D.tells then (D.at desk.old) run.old place }
-    ensures along { (setup : Parts) (then : DeskPort → Shown) → Taken (single_says setup) setup D.tells then (D.at desk.old) run.old place
-        → OnOk result (Along (single_says setup) setup D.tells then (D.at desk.new) run.new) }
-    ensures halts { (setup : Parts) (then : DeskPort → Shown) → Taken (single_says setup) setup D.tells then (D.at desk.old) run.old place
-        → IfErr result (HaltSays (single_says setup) setup D.tells then (D.at desk.new)) }
+fn run_taken<D: Desk>(
+    desk: &mut D,
+    run: &mut FileRun,
+    outputs: &mut RunOutputs,
+    place: u64,
+) -> Result<(), Halt>
+    requires ready { OutsOpen (D.at desk.old) outputs.old }
+    requires some { (setup : Parts) × (then : DeskPort → Shown) × Taken (run_means (single_says setup) setup) setup D.tells then (D.at desk.old) (waits_of outputs.old) run.old place }
+    ensures along { (setup : Parts) (then : DeskPort → Shown) → Taken (run_means (single_says setup) setup) setup D.tells then (D.at desk.old) (waits_of outputs.old) run.old place
+        → OnOk result (Along (run_means (single_says setup) setup) setup D.tells then (D.at desk.new) (waits_of outputs.new) run.new) }
+    ensures ready { OnOk result (OutsOpen (D.at desk.new) outputs.new) }
+    ensures halts { (setup : Parts) (then : DeskPort → Shown) → Taken (run_means (single_says setup) setup) setup D.tells then (D.at desk.old) (waits_of outputs.old) run.old place
+        → IfErr result (HaltSays (run_means (single_says setup) setup) setup D.tells then (D.at desk.new)) }
     ensures inputs { run.new.inputs ≡ run.old.inputs }
 {
     run_round(
@@ -89,27 +98,33 @@ fn run_taken<D: Desk>(desk: &mut D, run: &mut FileRun, place: u64) -> Result<(),
         &mut run.runner,
         &mut run.frames,
         &run.group,
-        &mut run.outputs,
+        outputs,
         run.form,
         place,
     )
 }
 
 /// Takes and runs the next round, or tells how the run ends.
-fn next_round<D: Desk>(desk: &mut D, run: &mut FileRun) -> Result<Option<RunEnd>, Halt>
-    requires { (setup : Parts) × (then : DeskPort → Shown) × Along (single_says setup) setup D.tells then (D.at desk.old) run.old }
-    ensures along { (setup : Parts) (then : DeskPort → Shown) → Along (single_says setup) setup D.tells then (D.at desk.old) run.old
-        → IfOk result (λ end. end ≡ None → Along (single_says setup) setup D.tells then (D.at desk.new) run.new) }
-    ensures over { (setup : Parts) (then : DeskPort → Shown) → Along (single_says setup) setup D.tells then (D.at desk.old) run.old
-        → IfOk result (λ end. IfSome end (Over (single_says setup) setup D.tells then (D.at desk.new) run.new)) }
-    ensures halts { (setup : Parts) (then : DeskPort → Shown) → Along (single_says setup) setup D.tells then (D.at desk.old) run.old
-        → IfErr result (HaltSays (single_says setup) setup D.tells then (D.at desk.new)) }
+fn next_round<D: Desk>(
+    desk: &mut D,
+    run: &mut FileRun,
+    outputs: &mut RunOutputs,
+) -> Result<Option<RunEnd>, Halt>
+    requires ready { OutsOpen (D.at desk.old) outputs.old }
+    requires some { (setup : Parts) × (then : DeskPort → Shown) × Along (run_means (single_says setup) setup) setup D.tells then (D.at desk.old) (waits_of outputs.old) run.old }
+    ensures along { (setup : Parts) (then : DeskPort → Shown) → Along (run_means (single_says setup) setup) setup D.tells then (D.at desk.old) (waits_of outputs.old) run.old
+        → IfOk result (λ end. end ≡ None → Along (run_means (single_says setup) setup) setup D.tells then (D.at desk.new) (waits_of outputs.new) run.new) }
+    ensures over { (setup : Parts) (then : DeskPort → Shown) → Along (run_means (single_says setup) setup) setup D.tells then (D.at desk.old) (waits_of outputs.old) run.old
+        → IfOk result (λ end. IfSome end (Over (run_means (single_says setup) setup) setup D.tells then (D.at desk.new) (waits_of outputs.new) run.new)) }
+    ensures ready { IfOk result (λ end. OutsOpen (D.at desk.new) outputs.new) }
+    ensures halts { (setup : Parts) (then : DeskPort → Shown) → Along (run_means (single_says setup) setup) setup D.tells then (D.at desk.old) (waits_of outputs.old) run.old
+        → IfErr result (HaltSays (run_means (single_says setup) setup) setup D.tells then (D.at desk.new)) }
     ensures rises { IfOk result (λ end. end ≡ None → taken_by run.old.inputs < taken_by run.new.inputs) }
     ensures most { IfOk result (λ end. end ≡ None → taken_by run.new.inputs ≤ 2 ^ 41) }
 {
     let place = run.inputs.place();
     match take_next(desk, run, &OneThread) {
-        Ok(None) => match run_taken(desk, run, place) {
+        Ok(None) => match run_taken(desk, run, outputs, place) {
             Ok(()) => Ok(None),
             Err(halt) => Err(halt),
         },
@@ -119,15 +134,21 @@ fn next_round<D: Desk>(desk: &mut D, run: &mut FileRun) -> Result<Option<RunEnd>
 }
 
 /// Runs all rounds, and tells how the run ends.
-pub(crate) fn run_rounds<D: Desk>(desk: &mut D, run: &mut FileRun) -> Result<RunEnd, Halt>
-    requires { (setup : Parts) × (then : DeskPort → Shown) × Along (single_says setup) setup D.tells then (D.at desk.old) run.old }
-    ensures over { (setup : Parts) (then : DeskPort → Shown) → Along (single_says setup) setup D.tells then (D.at desk.old) run.old
-        → IfOk result (Over (single_says setup) setup D.tells then (D.at desk.new) run.new) }
-    ensures halts { (setup : Parts) (then : DeskPort → Shown) → Along (single_says setup) setup D.tells then (D.at desk.old) run.old
-        → IfErr result (HaltSays (single_says setup) setup D.tells then (D.at desk.new)) }
+pub(crate) fn run_rounds<D: Desk>(
+    desk: &mut D,
+    run: &mut FileRun,
+    outputs: &mut RunOutputs,
+) -> Result<RunEnd, Halt>
+    requires ready { OutsOpen (D.at desk.old) outputs.old }
+    requires some { (setup : Parts) × (then : DeskPort → Shown) × Along (run_means (single_says setup) setup) setup D.tells then (D.at desk.old) (waits_of outputs.old) run.old }
+    ensures over { (setup : Parts) (then : DeskPort → Shown) → Along (run_means (single_says setup) setup) setup D.tells then (D.at desk.old) (waits_of outputs.old) run.old
+        → IfOk result (Over (run_means (single_says setup) setup) setup D.tells then (D.at desk.new) (waits_of outputs.new) run.new) }
+    ensures ready { IfOk result (λ end. OutsOpen (D.at desk.new) outputs.new) }
+    ensures halts { (setup : Parts) (then : DeskPort → Shown) → Along (run_means (single_says setup) setup) setup D.tells then (D.at desk.old) (waits_of outputs.old) run.old
+        → IfErr result (HaltSays (run_means (single_says setup) setup) setup D.tells then (D.at desk.new)) }
 {
     'rounds: loop {
-        match next_round(desk, run) {
+        match next_round(desk, run, outputs) {
             Ok(None) => {}
             Ok(Some(end)) => return Ok(end),
             Err(halt) => return Err(halt),

@@ -2,7 +2,7 @@
 use Rattle.std.proofs.Common.{[], Ok, Err, subst}
 use Rattle.sfc_desk.specs.declared.ports.Port.{Port}
 use Rattle.round_inputs.specs.declared.halts.Halt.TheVariants as halts
-use Rattle.file_runs.specs.RunSteps.{PutsAt}
+use Rattle.file_runs.specs.RunPuts.{PutsAt}
 use Rattle.file_runs.proofs.PutLemmas.{put_finished, put_unfinished}
 use Rattle.file_runs.proofs.run_outputs.finish.Goals as goal
 

@@ -2,7 +2,7 @@
 use Rattle.std.proofs.Common.{Ok, Option, sym, subst}
 use Rattle.sfc_desk.specs.declared.ports.Port.TheVariants.{Egress}
 use Rattle.pcap_io.specs.declared.forms.Form.{Form}
-use Rattle.file_runs.specs.RunSteps.{PutsAt, packets_in}
+use Rattle.file_runs.specs.RunPuts.{PutsAt, packets_in}
 use Rattle.file_runs.proofs.PutLemmas.{put_nothing}
 use Rattle.file_runs.proofs.run_outputs.put_egress.Goals as goal
 

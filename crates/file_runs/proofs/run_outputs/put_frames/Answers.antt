@@ -2,7 +2,8 @@
 use Rattle.std.proofs.Common.{Ok, Err, ap, sym, subst, ◌∙◌}
 use Rattle.sfc_desk.specs.declared.ports.Port.{Port}
 use Rattle.worker_run.specs.Outputs.{packets_out}
-use Rattle.file_runs.specs.RunSteps.{PutsAt, halt_of_fault}
+use Rattle.file_runs.specs.Means.{halt_of_fault}
+use Rattle.file_runs.specs.RunPuts.{PutsAt}
 use Rattle.file_runs.proofs.PutLemmas.{put_fault, put_ok}
 use Rattle.file_runs.proofs.run_outputs.put_frames.Goals as goal
 

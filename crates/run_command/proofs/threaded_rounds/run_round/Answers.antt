@@ -7,7 +7,7 @@ use Rattle.worker_run.specs.Runners.{RoundedOnThreads}
 use Rattle.worker_run.specs.Runs.{run_says}
 use Rattle.round_outputs.specs.RoundOutputs.{AreNamed}
 use Rattle.file_runs.proofs.PutLemmas.{fronts_still}
-use Rattle.file_runs.proofs.RoundLemmas.{always, round_put}
+use Rattle.file_runs.proofs.RoundLemmas.{always, round_puts}
 use Rattle.run_command.proofs.ThreadedLemmas.{forwarded_on_threads, named_on_threads}
 use Rattle.run_command.proofs.threaded_rounds.run_round.Goals as goal
 
@@ -26,7 +26,7 @@ pub returns-clause-round : goal.returns-clause-round
 returns-clause-round g c = λ history log stands.
     let runner = c.round.new.self in
     let same : c.setup.inside.roster ≡ runner.setup.roster = ap (λ (p : Parts). p.roster) c.setup.view_is ∙ ap (λ (p : Parts). p.roster) c.setup-setup.ensures in
-    round_put (run_says runner.setup runner.workers) g.D.Desk.tells (g.D.Desk.at c.args.desk.now) (g.D.Desk.at c.put_round.new.desk) (g.D.Desk.held c.args.desk.now) (g.D.Desk.held c.put_round.new.desk) c.args.outputs.now c.put_round.new.self runner c.setup.inside.roster c.args.form c.args.place history log
+    round_puts (run_says runner.setup runner.workers) g.D.Desk.tells (g.D.Desk.at c.args.desk.now) (g.D.Desk.at c.put_round.new.desk) (g.D.Desk.held c.args.desk.now) (g.D.Desk.held c.put_round.new.desk) c.args.outputs.now c.put_round.new.self runner c.setup.inside.roster c.args.form c.args.place history log
     c.args.group.now c.args.frames.now.batch c.round.new.batch c.in-Ok.replies c.as_slice.result.now c.put_round.result same c.as_slice.ensures (forwarded_on_threads runner history log c.args.group.now c.args.frames.now.batch c.round.new.batch c.in-Ok.replies (c.in-Ok.ensures.history history log stands)) c.put_round.ensures
 
 pub returns-clause-hold : goal.returns-clause-hold

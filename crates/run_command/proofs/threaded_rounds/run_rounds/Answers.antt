@@ -11,7 +11,7 @@ rounds-preserved g c = λ setup workers then on. c.in-Ok-None.ensures.along setu
 
 pub returns-in-Ok-Some-clause-over : goal.returns-in-Ok-Some-clause-over
 returns-in-Ok-Some-clause-over g c = λ setup workers then on.
-    some_so c.in-Ok-Some.field-0 c.in-Ok-Some.end (OverOn workers setup g.D.Desk.tells then (g.D.Desk.at c.next_round.new.desk) c.next_round.new.run) c.in-Ok-Some.field-0-is (c.in-Ok-Some.ensures.over setup workers then (c.rounds.invariant setup workers then on))
+    some_so c.in-Ok-Some.field-0 c.in-Ok-Some.end (OverOn workers setup g.D.Desk.tells then (g.D.Desk.at c.next_round.new.desk) c.next_round.new.outputs c.next_round.new.run) c.in-Ok-Some.field-0-is (c.in-Ok-Some.ensures.over setup workers then (c.rounds.invariant setup workers then on))
 
 pub returns-in-Err-clause-halts : goal.returns-in-Err-clause-halts
 returns-in-Err-clause-halts g c = λ setup workers then on. c.in-Err.ensures.halts setup workers then (c.rounds.invariant setup workers then on)

@@ -1,5 +1,5 @@
 -- Only the egress was written to.
-use Rattle.file_runs.specs.RunSteps.{head_in}
+use Rattle.file_runs.specs.RunPuts.{head_in}
 use Rattle.file_runs.proofs.PutLemmas.{puts_head}
 use Rattle.file_runs.proofs.run_outputs.RunOutputs.put_header.Goals as goal
 

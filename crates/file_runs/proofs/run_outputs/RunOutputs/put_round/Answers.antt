@@ -1,5 +1,5 @@
 -- What was put is written.
-use Rattle.file_runs.specs.RunSteps.{batch_texts}
+use Rattle.file_runs.specs.RunPuts.{batch_texts}
 use Rattle.file_runs.proofs.PutLemmas.{puts_written}
 use Rattle.file_runs.proofs.run_outputs.RunOutputs.put_round.Goals as goal
 

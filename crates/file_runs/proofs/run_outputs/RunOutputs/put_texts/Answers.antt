@@ -1,5 +1,5 @@
 -- The egress, then the lines, then the replies.
-use Rattle.file_runs.specs.RunSteps.{batch_texts}
+use Rattle.file_runs.specs.RunPuts.{batch_texts}
 use Rattle.file_runs.proofs.PutLemmas.{puts_all, stops_at_egress, stops_at_lines}
 use Rattle.file_runs.proofs.run_outputs.RunOutputs.put_texts.Goals as goal
 
